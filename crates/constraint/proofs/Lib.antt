@@ -1,0 +1,11 @@
+pub mod Form
+pub mod Lists
+pub mod Trees
+pub mod Forms
+pub mod Entail
+pub mod Solver
+pub mod FormSteps
+pub mod Cycle
+pub mod Untouched
+pub mod Decision
+pub mod Renamed

@@ -1,0 +1,142 @@
+//! Rebuilding the tree of a configuration: making, linking and freeing goals.
+
+use crate::config::{some, AndBox, AndId, Config, Goal, Node, Shape, NONE};
+
+/// Rebuilding the tree. These functions leave `order` and `parts` alone.
+impl Config {
+    pub(crate) fn set(&mut self, goal: Goal, shape: Shape) {
+        self.nodes[usize::from(goal.0)].shape = shape;
+    }
+
+    pub(crate) fn new_goal(&mut self, shape: Shape) -> Goal {
+        let node = Node {
+            shape,
+            parent: NONE,
+            before: NONE,
+            after: NONE,
+            first: NONE,
+            last: NONE,
+            children: 0,
+        };
+        if let Some(goal) = self.free_nodes.pop() {
+            self.nodes[usize::from(goal.0)] = node;
+            return goal;
+        }
+        self.nodes.push(node);
+        Goal(self.nodes.len() as u16 - 1)
+    }
+
+    /// New and-box contents: no locals, empty store.
+    pub(crate) fn new_and(&mut self) -> AndId {
+        self.stamps += 1;
+        let stamp = self.stamps;
+        if let Some(id) = self.free_ands.pop() {
+            self.and_mut(id).stamp = stamp;
+            return id;
+        }
+        self.ands.push(AndBox {
+            stamp,
+            ..AndBox::default()
+        });
+        AndId(self.ands.len() as u16 - 1)
+    }
+
+    /// Gives back and-box contents; the vectors keep their room.
+    pub(crate) fn free_and(&mut self, id: AndId) {
+        let and = self.and_mut(id);
+        and.locals.clear();
+        and.store.clear();
+        self.free_ands.push(id);
+    }
+
+    /// Gives back a goal, with its and-box contents.
+    pub(crate) fn free(&mut self, goal: Goal) {
+        if let Shape::And(id) = self.shape(goal) {
+            self.free_and(id);
+        }
+        self.free_nodes.push(goal);
+    }
+
+    /// Forgets the children of a goal.
+    pub(crate) fn forget_children(&mut self, goal: Goal) {
+        let node = &mut self.nodes[usize::from(goal.0)];
+        node.first = NONE;
+        node.last = NONE;
+        node.children = 0;
+    }
+
+    /// Puts a goal after all children of another.
+    pub(crate) fn append(&mut self, parent: Goal, child: Goal) {
+        let last = self.nodes[usize::from(parent.0)].last;
+        self.link(parent, last, child, NONE);
+    }
+
+    /// Puts a goal to the right of another.
+    pub(crate) fn insert_after(&mut self, left: Goal, child: Goal) {
+        let Node { parent, after, .. } = self.nodes[usize::from(left.0)];
+        self.link(parent, left, child, after);
+    }
+
+    fn link(&mut self, parent: Goal, left: Goal, child: Goal, right: Goal) {
+        let node = &mut self.nodes[usize::from(child.0)];
+        (node.parent, node.before, node.after) = (parent, left, right);
+        self.nodes[usize::from(parent.0)].children += 1;
+        self.join(parent, left, child);
+        self.join(parent, child, right);
+    }
+
+    /// Makes two children of `parent` neighbours; `NONE` stands for an end.
+    fn join(&mut self, parent: Goal, left: Goal, right: Goal) {
+        match some(left) {
+            Some(left) => self.nodes[usize::from(left.0)].after = right,
+            None => self.nodes[usize::from(parent.0)].first = right,
+        }
+        match some(right) {
+            Some(right) => self.nodes[usize::from(right.0)].before = left,
+            None => self.nodes[usize::from(parent.0)].last = left,
+        }
+    }
+
+    /// Takes a goal out of its parent.
+    pub(crate) fn unlink(&mut self, goal: Goal) {
+        let node = self.nodes[usize::from(goal.0)];
+        self.nodes[usize::from(node.parent.0)].children -= 1;
+        self.join(node.parent, node.before, node.after);
+    }
+
+    /// Puts a goal in the position of another, which is taken out.
+    pub(crate) fn replace(&mut self, old: Goal, new: Goal) {
+        let node = self.nodes[usize::from(old.0)];
+        self.unlink(old);
+        self.link(node.parent, node.before, new, node.after);
+    }
+
+    /// Puts the children of an or-box in its position in the outer one.
+    pub(crate) fn splice_children(&mut self, goal: Goal) {
+        let node = self.nodes[usize::from(goal.0)];
+        self.unlink(goal);
+        if node.children == 0 {
+            return;
+        }
+        let mut child = node.first;
+        while let Some(inner) = some(child) {
+            let inner = &mut self.nodes[usize::from(inner.0)];
+            inner.parent = node.parent;
+            child = inner.after;
+        }
+        self.nodes[usize::from(node.parent.0)].children += node.children;
+        self.join(node.parent, node.before, node.first);
+        self.join(node.parent, node.last, node.after);
+    }
+
+    /// Lets the `old` places from `at` become `new` places; places to the right
+    /// move. The caller fills what is new.
+    pub(crate) fn reshape(&mut self, at: usize, old: usize, new: usize) {
+        let length = self.order.len();
+        if new > old {
+            self.order.resize(length + new - old, NONE);
+        }
+        self.order.copy_within(at + old..length, at + new);
+        self.order.truncate(length + new - old);
+    }
+}
