@@ -60,6 +60,16 @@ pub struct Arguments {
 }
 
 impl Arguments {
+    /// At most eight arguments.
+    pub fn new(arguments: &[Variable]) -> Arguments {
+        let mut list = [Variable(0); crate::limits::ARGUMENTS];
+        list[..arguments.len()].copy_from_slice(arguments);
+        Arguments {
+            length: arguments.len() as u8,
+            list,
+        }
+    }
+
     pub fn as_slice(&self) -> &[Variable] {
         &self.list[..usize::from(self.length)]
     }
@@ -103,6 +113,8 @@ pub struct Config {
     /// The length of `frames` at which unused frames are dropped.
     frames_full: usize,
     pub(crate) stamps: u64,
+    /// Scratch: the copy of each goal that was copied.
+    pub(crate) copies: Vec<Goal>,
     /// Its parts.
     pub parts: usize,
     /// The next fresh variable's number.
@@ -270,6 +282,12 @@ impl Config {
         Closure { statement, frame }
     }
 
+    /// The variables that `opened` will take for so many hidden ones.
+    pub fn fresh(&self, hidden: u16) -> impl Iterator<Item = Variable> {
+        let first = self.next as u16;
+        (first..first + hidden).map(Variable)
+    }
+
     /// Statement `inner` of `closure`, with `hidden` fresh variables for the
     /// levels that are new in it. "Fresh variables take the next numbers never
     /// used before, in order of their lists."
@@ -293,9 +311,9 @@ impl Config {
             self.frames.extend_from_within(start..end);
             copy
         };
-        let first = self.next as u16;
+        let fresh = self.fresh(hidden);
+        self.frames.extend(fresh);
         self.next += u32::from(hidden);
-        self.frames.extend((first..first + hidden).map(Variable));
         Closure {
             statement: inner,
             frame,

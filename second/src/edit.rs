@@ -49,6 +49,42 @@ impl Config {
         self.free_ands.push(id);
     }
 
+    /// A goal like another, with and-box contents of its own and no children.
+    pub(crate) fn copy_goal(&mut self, goal: Goal) -> Goal {
+        let shape = match self.shape(goal) {
+            Shape::And(id) => {
+                let copy = self.new_and();
+                let mut to = std::mem::take(self.and_mut(copy));
+                let from = self.and(id);
+                to.locals.extend_from_slice(&from.locals);
+                to.store.extend_from_slice(&from.store);
+                *self.and_mut(copy) = to;
+                Shape::And(copy)
+            }
+            shape => shape,
+        };
+        let copy = self.new_goal(shape);
+        if self.copies.len() < self.nodes.len() {
+            self.copies.resize(self.nodes.len(), NONE);
+        }
+        self.copies[usize::from(goal.0)] = copy;
+        copy
+    }
+
+    /// The last copy made of a goal.
+    pub(crate) fn copy_of(&self, goal: Goal) -> Goal {
+        self.copies[usize::from(goal.0)]
+    }
+
+    /// Moves locals and store to the ends of those of another and-box.
+    pub(crate) fn move_contents(&mut self, from: AndId, to: AndId) {
+        let mut moved = std::mem::take(self.and_mut(from));
+        let and = self.and_mut(to);
+        and.locals.append(&mut moved.locals);
+        and.store.append(&mut moved.store);
+        *self.and_mut(from) = moved;
+    }
+
     /// Gives back a goal, with its and-box contents.
     pub(crate) fn free(&mut self, goal: Goal) {
         if let Shape::And(id) = self.shape(goal) {

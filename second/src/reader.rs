@@ -26,6 +26,7 @@ pub fn read_program(text: &[u8]) -> Result<Program, Refusal> {
         let key = (definition.name, definition.parameters.length as usize);
         let id = DefinitionId(number as u32);
         twice |= program.defined.insert(key, id).is_some();
+        program.heads.push(definition.name);
     }
     let mut resolver = Resolver {
         concrete: &concrete,

@@ -134,6 +134,8 @@ pub struct Program {
     pub code: Code,
     /// The number of each defined name and arity.
     pub defined: HashMap<(Name, usize), DefinitionId>,
+    /// The name of each definition.
+    pub heads: Vec<Name>,
     /// The body of each definition; its levels begin with the parameters.
     pub bodies: Vec<StatementId>,
 }

@@ -7,8 +7,8 @@ use Prim.Native.Nat.{ℕ, zero, suc, _+_, _-_, _<_, _≤_, max}
 use native.Mathlib.Omega.{arith}
 use lib.Dec.{T}
 use Rattle.constraint.specs.Tree.{Tree, node, fcons}
-use Rattle.constraint.specs.Constraint.{Con, ctrue, cfail, ceq, capp, Store, Asg, trees, Sat, Sats, In, Off, Quiet, vars, varsAll, Apart, Fresh}
-use Rattle.constraint.specs.Solve.{elem, top, rename, mapCon, quiet-fresh?, quiet?}
+use Rattle.constraint.specs.Constraint.{Con, ctrue, cfail, ceq, capp, mapCon, Store, Asg, trees, Sat, Sats, In, Off, Quiet, vars, varsAll, Apart, Fresh}
+use Rattle.constraint.specs.Solve.{elem, top, rename, quiet-fresh?, quiet?}
 use Rattle.constraint.proofs.Lists.{elem-In, In-append, map-In, map-out}
 use Rattle.constraint.proofs.Trees.{dec-in, sat-agree}
 use Rattle.constraint.proofs.Entail.{if, if-yes, if-no}

@@ -1,7 +1,7 @@
 -- Constraints, and what document 01 says of them by the trees that satisfy them.
 use mathlib.Core.Path.{_≡_, refl}
 use mathlib.Core.Logic.{_⊎_, inl, inr}
-use mathlib.Core.List.{List, [], _∷_, _++_}
+use mathlib.Core.List.{List, [], _∷_, _++_, map}
 use Prim.Native.Nat.{ℕ}
 use Rattle.constraint.specs.Tree.{Label, Tree, Forest, node, fnil, fcons}
 
@@ -12,6 +12,13 @@ pub data Con (X : Type 0) : Type 0 where
   ctrue cfail : Con X
   ceq : X → X → Con X
   capp : X → Label → List X → Con X
+
+-- The same constraint of other variables.
+abbrev pub mapCon : {X Y : Type 0} → (X → Y) → Con X → Con Y
+mapCon f ctrue = ctrue
+mapCon f cfail = cfail
+mapCon f (ceq x y) = ceq (f x) (f y)
+mapCon f (capp x g ys) = capp (f x) g (map f ys)
 
 -- A store of constraints, over variable numbers.
 abbrev pub Store : Type 0

@@ -14,7 +14,7 @@ use native.Mathlib.Decide.{ℕ-discrete}
 use lib.ListN.{length}
 use lib.Dec.{eqb}
 use Rattle.constraint.specs.Tree.{Label, label-dec}
-use Rattle.constraint.specs.Constraint.{Con, ctrue, cfail, ceq, capp, Store, varsAll}
+use Rattle.constraint.specs.Constraint.{Con, ctrue, cfail, ceq, capp, mapCon, Store, varsAll}
 
 -- What a class is bound to: nothing, or a constructor term.
 pub data Bnd : Type 0 where
@@ -214,12 +214,6 @@ top (x ∷ l) = max (suc x) (top l)
 
 unfoldable pub rename : List ℕ → ℕ → ℕ → ℕ
 rename vs k x = elim (elem x vs) [ true ↦ k + x | false ↦ x ]
-
-abbrev pub mapCon : {X Y : Type 0} → (X → Y) → Con X → Con Y
-mapCon f ctrue = ctrue
-mapCon f cfail = cfail
-mapCon f (ceq x y) = ceq (f x) (f y)
-mapCon f (capp x g ys) = capp (f x) g (map f ys)
 
 unfoldable pub quiet? : List ℕ → Store → Store → Bool
 quiet? vs env σ =

@@ -1,0 +1,25 @@
+//! A second checker of AKL runs, written from document 01 alone.
+//!
+//! It reads a program, a query and a list of steps, checks each step, rewrites
+//! the configuration and reports answers. See `README.md`.
+
+pub mod answers;
+pub mod checker;
+pub mod config;
+mod edit;
+mod effects;
+mod environment;
+mod lexer;
+pub mod limits;
+pub mod names;
+mod parser;
+pub mod reader;
+pub mod oracle;
+pub mod random;
+pub mod record;
+pub mod refusal;
+pub mod rules;
+mod solver;
+mod stability;
+pub mod steps;
+pub mod syntax;

@@ -1,0 +1,11 @@
+//! Independent checks: a slow model of everything, written once more from the
+//! sentences of document 01, and trials of verdicts on trees.
+
+pub mod dump;
+pub mod ground;
+pub mod logic;
+pub mod meaning;
+pub mod model;
+pub mod record;
+pub mod rewrite;
+pub mod text;
