@@ -11,20 +11,24 @@ use Rattle.akl.specs.Base.{Name, bytes, size, nth, flat, range, decimal,
 use Rattle.akl.specs.Configuration.{Kind, goal, member, Node, or, and, stmt, choice-box, guard, Nodes, nil, cons}
 
 -- "An answer is a solved and-box, satisfiable, in the top or-box or in or-boxes nested in it, left to right."
-abbrev pub solved-store : Store → Nodes member → List Store
-solved-store σ nil = if (satisfiable? σ) (σ ∷ []) []
-solved-store σ (cons m ms) = []
+-- It is known by its locals and its store.
+abbrev pub Answer : Type 0
+Answer = List ℕ × Store
+
+abbrev pub solved-box : List ℕ → Store → Nodes member → List Answer
+solved-box vs σ nil = if (satisfiable? σ) ((vs, σ) ∷ []) []
+solved-box vs σ (cons m ms) = []
 
 -- (Members and guarded goals hold none.)
 unfoldable mutual
-  pub answers : {k : Kind} → Node k → List Store
+  pub answers : {k : Kind} → Node k → List Answer
   answers (or ns) = answers-all ns
-  answers (and vs σ ms) = solved-store σ ms
+  answers (and vs σ ms) = solved-box vs σ ms
   answers (stmt s) = []
   answers (choice-box op gs) = []
   answers (guard g b) = []
 
-  pub answers-all : {k : Kind} → Nodes k → List Store
+  pub answers-all : {k : Kind} → Nodes k → List Answer
   answers-all nil = []
   answers-all (cons n ns) = answers n ++ answers-all ns
 
@@ -98,17 +102,17 @@ abbrev pub solved-text : List Name → Option St → List ℕ
 solved-text xs none = []
 solved-text xs (some s) = line-text xs (terms (value (suc (size (s .bs))) s) (range 0 (size xs)))
 
-unfoldable pub answer-text : List Name → Store → List ℕ
-answer-text xs σ = solved-text xs (solve start σ)
+unfoldable pub answer-text : List Name → Answer → List ℕ
+answer-text xs a = solved-text xs (solve start (a .1))
 
 -- The outcome of asking for the answer of a number, for a slice of the length m: 16 "no answer of that number, counted
 -- from 1", 17 "answer text longer than the lent slice".
-abbrev pub numbered : List Name → Node goal → ℕ → Option Store
+abbrev pub numbered : List Name → Node goal → ℕ → Option Answer
 numbered xs g zero = none
 numbered xs g (suc n) = nth (answers g) n
 
 unfoldable pub answer : List Name → Node goal → ℕ → ℕ → Result (List ℕ)
-answer xs g n m = elim (numbered xs g n) [ none ↦ refused 16 | some σ ↦ let t = answer-text xs σ in if (ltb m (size t)) (refused 17) (ok t) ]
+answer xs g n m = elim (numbered xs g n) [ none ↦ refused 16 | some a ↦ let t = answer-text xs a in if (ltb m (size t)) (refused 17) (ok t) ]
 
 -- ---------------------------------------------------------------------------------------------
 -- "The state is `failed` when the top or-box is empty, `final` when every member is an answer, else `open`."

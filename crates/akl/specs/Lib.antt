@@ -15,5 +15,7 @@ pub mod Stability
 pub mod Step
 pub mod Answers
 pub mod Record
+pub mod WellFormed
+pub mod Meaning
 pub mod Computed
 pub mod Rows

@@ -3,7 +3,6 @@ use mathlib.Core.List.{List, [], _∷_, _++_}
 use mathlib.Core.Bool.{Bool}
 use Prim.Native.Nat.{ℕ, zero, suc}
 use lib.Dec.{ltb}
-use Rattle.constraint.specs.Constraint.{Store}
 use Rattle.akl.specs.Base.{Name, bytes, size, flat, decimal, if, Result, refused, ok}
 use Rattle.akl.specs.Limits.{most-parts, answer-bytes}
 use Rattle.akl.specs.Syntax.{Program}
@@ -11,7 +10,7 @@ use Rattle.akl.specs.Reader.{Query, read-program, read-query}
 use Rattle.akl.specs.StepsText.{Step, read-steps}
 use Rattle.akl.specs.Configuration.{Config, start-config}
 use Rattle.akl.specs.Step.{within-limits, Run, steps}
-use Rattle.akl.specs.Answers.{answers, answer-text, state, state-text}
+use Rattle.akl.specs.Answers.{Answer, answers, answer-text, state, state-text}
 
 -- "new or starting configuration over 2,048 parts"
 unfoldable pub start : ℕ → Query → Result Config
@@ -34,8 +33,8 @@ unfoldable pub two-lines : ℕ → ℕ → List ℕ
 two-lines accepted refusal = line (bytes "accepted " ++ decimal accepted) ++ line (bytes "refusal " ++ decimal refusal)
 
 -- "It lends 4,096 bytes per answer and prints `answer long` on 17."
-unfoldable pub answer-line : List Name → Store → List ℕ
-answer-line xs σ = let t = answer-text xs σ in line (bytes "answer " ++ if (ltb answer-bytes (size t)) (bytes "long") t)
+unfoldable pub answer-line : List Name → Answer → List ℕ
+answer-line xs a = let t = answer-text xs a in line (bytes "answer " ++ if (ltb answer-bytes (size t)) (bytes "long") t)
 
 -- "If a text or the start is refused, only the first two lines stand, with 0 accepted."
 unfoldable pub printed : Result Checked → List ℕ
