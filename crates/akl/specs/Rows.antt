@@ -233,6 +233,9 @@ run-rows =
     ∷ prints "" "(X = a ? true)." "5 2 0\n1 5 0\n6 2 0\n1 2 0\n" "accepted 4\nrefusal 0\nanswer X = a\nstate final\n"
     -- quiet by what is stored in the and-box around
     ∷ prints "" "X = a, (X = a -> true)." "3 2 0\n1 2 0\n5 2 0\n1 5 0\n6 2 0\n1 2 0\n" "accepted 6\nrefusal 0\nanswer X = a\nstate final\n"
+    ∷ prints "" "X = a, (X = a -> true ; true -> true)." "3 2 0\n1 2 0\n5 2 0\n1 5 0\n7 3 0\n" "accepted 5\nrefusal 0\nstate open\n"
+    -- .. and failed by it
+    ∷ prints "" "X = a, (X = b ? true)." "3 2 0\n1 2 0\n5 2 0\n1 5 0\n9 4 0\n" "accepted 5\nrefusal 0\nstate open\n"
     -- an outer variable bound to a local one is quiet
     ∷ prints "" "(Z : X = Z | true ; true | true)." "5 2 0\n1 5 0\n8 3 0\n" "accepted 3\nrefusal 0\nstate open\n"
     -- two outer variables joined through a local one are not
@@ -327,6 +330,9 @@ config-rows =
     -- splitting copies locals and store too: or, 2 and, or-box inside, 2 stored, 2 locals, 2 choices, 2 guarded, 2 guards, 2 bodies
     ∷ steps-from 16 (config (top-box (x ∷ []) ((x is "a") ∷ []) (one (choice-box wait (cons (guard (and [] [] nil) (atom ctrue)) (one (guard (and [] [] nil) (atom ctrue))))))) 1) (take 12 2 1) 0
     ∷ steps-from 15 (config (top-box (x ∷ []) ((x is "a") ∷ []) (one (choice-box wait (cons (guard (and [] [] nil) (atom ctrue)) (one (guard (and [] [] nil) (atom ctrue))))))) 1) (take 12 2 1) 15
+    -- promotion keeps the guard's local: an or-box, an and-box, a local and an atom are left
+    ∷ steps-from 4 (config (top-box [] [] (one (choice-box wait (one (guard (and (y ∷ []) [] nil) (atom ctrue)))))) 2) (take 6 2 0) 0
+    ∷ steps-from 3 (config (top-box [] [] (one (choice-box wait (one (guard (and (y ∷ []) [] nil) (atom ctrue)))))) 2) (take 6 2 0) 15
     -- 14 before 15
     ∷ steps-from 1 (config (top-box [] [] (one (stmt (hide 1 (atom ctrue))))) 65535) (take 4 2 0) 14
     -- well formed
