@@ -110,8 +110,10 @@ pub struct Config {
     pub(crate) order: Vec<Goal>,
     /// The variables that levels stand for, frame after frame.
     frames: Vec<Variable>,
-    /// The length of `frames` at which unused frames are dropped.
+    /// The length of `frames` at which unused frames are dropped next, and the
+    /// least such length.
     frames_full: usize,
+    frames_least: usize,
     pub(crate) stamps: u64,
     /// Scratch: the copy of each goal that was copied.
     pub(crate) copies: Vec<Goal>,
@@ -133,6 +135,7 @@ impl Config {
                 .map(Variable)
                 .collect(),
             frames_full: FRAMES,
+            frames_least: FRAMES,
             next: query.variables.len() as u32,
             ..Config::default()
         };
@@ -320,6 +323,12 @@ impl Config {
         }
     }
 
+    /// Lets unused frames be dropped as soon as there can be any.
+    pub fn tidy_often(&mut self) {
+        self.frames_least = 0;
+        self.frames_full = 0;
+    }
+
     /// Drops frames that no statement uses, once they have piled up.
     pub fn tidy(&mut self, code: &Code) {
         if self.frames.len() < self.frames_full {
@@ -348,7 +357,7 @@ impl Config {
                 closure.frame = moved;
             }
         }
-        self.frames_full = FRAMES.max(2 * self.frames.len());
+        self.frames_full = self.frames_least.max(2 * self.frames.len());
     }
 }
 

@@ -4,11 +4,13 @@
 //! the configuration and reports answers. See `README.md`.
 
 pub mod answers;
+pub mod bench;
 pub mod checker;
 pub mod config;
 mod edit;
 mod effects;
 mod environment;
+pub mod fuzz;
 mod lexer;
 pub mod limits;
 pub mod names;

@@ -1,11 +1,15 @@
 //! The program `second`; see `README.md` for its commands.
 
+use second::fuzz::campaign::{campaign, one, Counts, Disagreement};
+use second::fuzz::make;
 use second::record::{record, run, Texts};
 use std::io::Write;
 use std::path::Path;
 use std::process::ExitCode;
 
-const USAGE: &str = "usage: second DIR | --sheet LISTFILE | --allowed DIR";
+const USAGE: &str = "usage: second DIR | --sheet LISTFILE | --allowed DIR | \
+--random SEED COUNT | --random-one SEED | --make SEED OUTDIR | \
+--make-many SEED COUNT OUTDIR | --bench";
 
 fn main() -> ExitCode {
     let arguments: Vec<String> = std::env::args().skip(1).collect();
@@ -13,6 +17,23 @@ fn main() -> ExitCode {
     match arguments[..] {
         ["--sheet", list] => sheet(Path::new(list)),
         ["--allowed", folder] => allowed(Path::new(folder)),
+        ["--random", seed, count] => match (seed.parse(), count.parse()) {
+            (Ok(seed), Ok(count)) => random(|counts| campaign(seed, count, counts)),
+            _ => usage(),
+        },
+        ["--random-one", seed] => match seed.parse() {
+            Ok(seed) => random(|counts| one(seed, counts)),
+            Err(_) => usage(),
+        },
+        ["--make", seed, folder] => match seed.parse() {
+            Ok(seed) => make_case(seed, Path::new(folder)),
+            Err(_) => usage(),
+        },
+        ["--make-many", seed, count, folder] => match (seed.parse(), count.parse()) {
+            (Ok(seed), Ok(count)) => make_cases(seed, count, Path::new(folder)),
+            _ => usage(),
+        },
+        ["--bench"] => print(second::bench::report().as_bytes()),
         [folder] if !folder.starts_with("--") => {
             print(&record(&Texts::of_folder(Path::new(folder))))
         }
@@ -56,4 +77,47 @@ fn allowed(folder: &Path) -> ExitCode {
         out.push_str(&format!("{} {place} {argument}\n", step.rule));
     }
     print(out.as_bytes())
+}
+
+/// Random runs with all checks; status 1 on a disagreement.
+fn random(work: impl FnOnce(&mut Counts) -> Result<(), Box<Disagreement>>) -> ExitCode {
+    let mut counts = Counts::default();
+    let result = work(&mut counts);
+    print!("{}", counts.text());
+    match result {
+        Ok(()) => {
+            println!("disagreements 0");
+            ExitCode::SUCCESS
+        }
+        Err(found) => {
+            println!("disagreements 1, again with --random-one {}", found.seed);
+            println!("{}", found.what);
+            for text in [&found.texts.rules, &found.texts.query, &found.texts.steps] {
+                println!("----\n{}", String::from_utf8_lossy(text));
+            }
+            ExitCode::FAILURE
+        }
+    }
+}
+
+fn make_case(seed: u64, folder: &Path) -> ExitCode {
+    match make::write(&make::texts(seed), folder) {
+        Ok(()) => ExitCode::SUCCESS,
+        Err(error) => {
+            eprintln!("{}: {error}", folder.display());
+            ExitCode::FAILURE
+        }
+    }
+}
+
+/// Folders 00000 and up, from one seed each.
+fn make_cases(seed: u64, count: u64, folder: &Path) -> ExitCode {
+    for number in 0..count {
+        let case = folder.join(format!("{number:05}"));
+        let status = make_case(seed.wrapping_mul(1_000_003).wrapping_add(number), &case);
+        if status != ExitCode::SUCCESS {
+            return status;
+        }
+    }
+    ExitCode::SUCCESS
 }

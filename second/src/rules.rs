@@ -21,6 +21,10 @@ pub enum Kind {
     OuterOrBox,
 }
 
+impl Kind {
+    const COUNT: usize = Kind::OuterOrBox as usize + 1;
+}
+
 /// "Rule 12 is the nondeterminate rule; the others are determinate."
 #[derive(Clone, Copy, Debug, PartialEq, Eq)]
 pub enum Mode {
@@ -95,6 +99,29 @@ pub const TABLE: [Row; 14] = [
     row(Rule::Distribution, Kind::GuardedGoal, Rewrites::Parent),
     row(Rule::Flattening, Kind::InnerOrBox, Rewrites::Parent),
 ];
+
+/// The determinate rules that take each kind of place, a bit for each row.
+const DETERMINATE: [u16; Kind::COUNT] = {
+    let mut found = [0; Kind::COUNT];
+    let mut index = 0;
+    while index < TABLE.len() {
+        if matches!(TABLE[index].mode, Mode::Determinate) {
+            found[TABLE[index].place as usize] |= 1 << index;
+        }
+        index += 1;
+    }
+    found
+};
+
+/// The rows of the determinate rules that take a kind of place.
+pub fn determinate(kind: Kind) -> impl Iterator<Item = &'static Row> {
+    let mut left = DETERMINATE[kind as usize];
+    std::iter::from_fn(move || {
+        let row = TABLE.get(left.trailing_zeros() as usize)?;
+        left &= left - 1;
+        Some(row)
+    })
+}
 
 /// The row of a rule's number.
 pub fn row_of(number: u32) -> Option<&'static Row> {

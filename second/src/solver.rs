@@ -46,6 +46,8 @@ struct Cell {
     rank: u8,
     /// Met in a constraint told so far; else the class fields mean nothing.
     met: bool,
+    /// False only while no term has a variable of the class as argument.
+    pointed: bool,
     /// The lowest level of a variable of the class.
     level: u16,
     /// The level set by `own`, valid in the walk `owned_in`.
@@ -89,7 +91,7 @@ pub struct Solver {
     trail: Vec<Change>,
     walk: u64,
     visit: u64,
-    /// While telling: pairs still to be merged, classes that got new arguments.
+    /// While telling: pairs still to be merged, classes where a cycle may close.
     pairs: Vec<(Variable, Variable)>,
     touched: Vec<Variable>,
     path: Vec<(Variable, u32, u32)>,
@@ -111,6 +113,7 @@ const UNMET: Cell = Cell {
     up: Variable(0),
     rank: 0,
     met: false,
+    pointed: false,
     level: 0,
     own_level: 0,
     term: 0,
@@ -235,6 +238,7 @@ impl Solver {
         cell.up = variable;
         cell.rank = 0;
         cell.met = true;
+        cell.pointed = false;
         cell.level = if cell.owned_in == walk {
             cell.own_level
         } else {
@@ -287,10 +291,16 @@ impl Solver {
         let number = self.terms.len() as u32;
         self.cell_mut(root).term = number;
         self.trail.push(Change::Bound(root));
-        if !arguments.is_empty() {
-            for &argument in arguments {
-                self.meet(argument);
-            }
+        let pointed = self.cell(root).pointed;
+        let mut closes = false;
+        for &argument in arguments {
+            let inner = self.meet(argument);
+            let cell = self.cell_mut(inner);
+            cell.pointed = true;
+            // From the root itself, or on through a term to the root.
+            closes |= inner == root || (pointed && cell.term != 0);
+        }
+        if closes {
             self.touched.push(root);
         }
     }
@@ -319,14 +329,22 @@ impl Solver {
     /// Merges two classes.
     fn merge(&mut self, left: Variable, right: Variable) -> bool {
         let (a, b) = (*self.cell(left), *self.cell(right));
-        match (a.term, b.term) {
+        // A cycle closes on a way from one of the two to the other.
+        let closes = match (a.term, b.term) {
             (0, 0) => {
                 let higher = a.level.max(b.level);
                 self.telling.loud |= higher < self.telling.level;
                 self.telling.loud_outside |= higher == 0;
+                false
             }
-            (0, y) => self.gets_term(left, self.terms[y as usize - 1].length),
-            (x, 0) => self.gets_term(right, self.terms[x as usize - 1].length),
+            (0, y) => {
+                self.gets_term(left, self.terms[y as usize - 1].length);
+                a.pointed
+            }
+            (x, 0) => {
+                self.gets_term(right, self.terms[x as usize - 1].length);
+                b.pointed
+            }
             (x, y) => {
                 let (x, y) = (self.terms[x as usize - 1], self.terms[y as usize - 1]);
                 if x.label != y.label || x.length != y.length {
@@ -339,8 +357,9 @@ impl Solver {
                 }
                 let base = self.telling.base;
                 self.telling.disturbed |= a.oldest < base && b.oldest < base;
+                a.pointed || b.pointed
             }
-        }
+        };
         let (root, child) = if a.rank < b.rank {
             (right, left)
         } else {
@@ -357,6 +376,7 @@ impl Solver {
         });
         self.cell_mut(child).up = root;
         let cell = self.cell_mut(root);
+        cell.pointed |= a.pointed || b.pointed;
         cell.level = a.level.min(b.level);
         cell.oldest = a.oldest.min(b.oldest);
         cell.term = if old.term != 0 {
@@ -367,16 +387,16 @@ impl Solver {
         if a.rank == b.rank {
             cell.rank += 1;
         }
-        if cell.term != 0 {
+        if closes {
             self.touched.push(root);
         }
         true
     }
 
     /// Whether some class now contains itself: finite trees do not. There was no
-    /// cycle before, so one runs through a touched class. While no old class got
-    /// new arguments old classes lead to old ones only, and the search passes
-    /// them by.
+    /// cycle before, so one runs through a class where a change may have closed
+    /// it. While no old class got new arguments old classes lead to old ones
+    /// only, and the search passes them by.
     fn cyclic(&mut self) -> bool {
         let open = self.visit + 1;
         let closed = self.visit + 2;

@@ -7,7 +7,7 @@
 
 use crate::config::{Config, Goal, Shape};
 use crate::environment::Environment;
-use crate::rules::{self, condition, Judge, Mode, Rewrites};
+use crate::rules::{self, condition, Judge, Rewrites};
 use crate::solver::Mark;
 use crate::syntax::Code;
 
@@ -48,12 +48,9 @@ impl Walking<'_> {
             }
         }
         let kind = rules::kind(code, config, goal);
-        rules::TABLE.iter().all(|row| {
+        rules::determinate(kind).all(|row| {
             let inside = row.rewrites == Rewrites::Place || goal != whole;
-            row.place != kind
-                || row.mode != Mode::Determinate
-                || !inside
-                || !condition(row.rule, config, goal, self)
+            !inside || !condition(row.rule, config, goal, self)
         })
     }
 

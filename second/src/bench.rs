@@ -1,0 +1,211 @@
+//! Measurements: nanoseconds for representative steps at 500, 1,000 and 2,000
+//! parts.
+
+use crate::checker::Checker;
+use crate::config::Place;
+use crate::reader::{read_program, read_query};
+use crate::steps::Step;
+use std::fmt::Write;
+use std::time::Instant;
+
+/// What is measured: a configuration, and steps that are timed on copies of it.
+struct Case {
+    what: &'static str,
+    checker: Checker,
+    steps: Vec<Step>,
+    copies: usize,
+}
+
+/// A step of rule and place, the argument being 0.
+fn step(rule: u32, place: usize) -> Step {
+    splitting_step(rule, place, 0)
+}
+
+fn splitting_step(rule: u32, place: usize, argument: usize) -> Step {
+    Step {
+        rule,
+        place: Place(place as u32),
+        argument: Place(argument as u32),
+    }
+}
+
+/// A query's configuration after some steps.
+fn checker(rules: &str, query: &str, steps: &[Step]) -> Checker {
+    let program = read_program(rules.as_bytes()).expect("a program");
+    let query = read_query(&program, query.as_bytes()).expect("a query");
+    let mut checker = Checker::start(query).expect("within the limits");
+    let (accepted, refusal) = checker.run(steps);
+    assert_eq!(refusal, None, "step {accepted}");
+    checker
+}
+
+/// Takes a composition of `count` members at a place apart.
+fn apart(place: usize, count: usize) -> impl Iterator<Item = Step> {
+    (place..place + count - 1).map(|place| step(3, place))
+}
+
+/// A query of one atom among waiting members, so that there are about so many
+/// parts, half of them before the atom and half after it; the steps that take
+/// it apart, and the atom's place then. A group of eight at a time is unfolded,
+/// since compositions are parts too.
+const WAIT: &str = "w := true.\nv := w,w,w,w,w,w,w,w.\n";
+
+fn among(atom: &str, parts: usize) -> (String, Vec<Step>, usize) {
+    let groups = parts / 16;
+    let query = format!("{}{atom}{}.", "v,".repeat(groups), ",v".repeat(groups));
+    let mut steps: Vec<Step> = apart(2, 2 * groups + 1).collect();
+    for member in (0..=2 * groups).rev().filter(|&m| m != groups) {
+        steps.push(step(2, 2 + member));
+        steps.extend(apart(2 + member, 8));
+    }
+    (query, steps, 2 + 8 * groups)
+}
+
+/// A loop of rules 2, 5, 1, 9, 11, 1, 6 among waiting members.
+fn looping(parts: usize) -> Case {
+    let rules = format!("{WAIT}p := (fail ? true ; true ? p).\n");
+    let (query, before, at) = among("p", parts);
+    let round = [(2, 0), (5, 0), (1, 3), (9, 2), (11, 1), (1, 3), (6, 0)];
+    let round = round.map(|(rule, place)| step(rule, at + place));
+    Case {
+        what: "rules 2, 5, 1, 9, 11, 1, 6 in turn",
+        checker: checker(&rules, &query, &before),
+        steps: round.repeat(200),
+        copies: 50,
+    }
+}
+
+/// Rules 3 and 1 through a long composition, from the front.
+fn storing(parts: usize) -> Case {
+    let count = parts / 2 - 2;
+    let query = "X=a,".repeat(count) + "X=a.";
+    Case {
+        what: "rules 3 and 1 in turn, all atoms stored",
+        checker: checker("", &query, &[]),
+        steps: [step(3, 2), step(1, 2)].repeat(count),
+        copies: 100,
+    }
+}
+
+/// Quiet tests under a store of half the parts that hangs together: rules 7, 6.
+fn quiet(parts: usize) -> Case {
+    let count = parts / 2 - 10;
+    let rules = "s(X) := (C : X = f(C), s(C)).\n\
+                 p(X) := (Z : X = f(Z) -> p(X) ; true -> true).\n";
+    let mut before = vec![step(3, 2)];
+    before.extend([step(2, 2), step(4, 2), step(3, 2), step(1, 2)].repeat(count));
+    let round = [step(2, 3), step(5, 3), step(1, 6), step(7, 4), step(6, 3)];
+    Case {
+        what: "rules 2, 5, 1, 7, 6 in turn, quiet under a store of half the parts",
+        checker: checker(rules, "s(X), p(X).", &before),
+        steps: round.repeat(10),
+        copies: 300,
+    }
+}
+
+/// The first quiet test after the store was made.
+fn quiet_afresh(parts: usize) -> Case {
+    let mut case = quiet(parts);
+    case.checker.run(&case.steps[..3]);
+    case.what = "rule 7 alone, that store told to the solver afresh";
+    case.steps.drain(..3);
+    case.steps.truncate(1);
+    case
+}
+
+/// An and-box of many choice-boxes, two solved guards each.
+fn choices(parts: usize) -> (Checker, usize) {
+    let count = parts / 9;
+    let rules = "c(X,Y) := (X=a?true;Y=b?true).\n";
+    let query = "c(X,Y),".repeat(count - 1) + "c(X,Y).";
+    let mut before: Vec<Step> = apart(2, count).collect();
+    for at in (0..count).map(|i| 2 + 5 * i) {
+        before.extend([step(2, at), step(5, at), step(1, at + 3), step(1, at + 5)]);
+    }
+    (checker(rules, &query, &before), count)
+}
+
+/// Splitting with the top named: all goals are walked, nearly all is copied.
+fn splitting(parts: usize) -> Case {
+    let (mut checker, _) = choices(parts);
+    checker.limits.parts = 2 * parts;
+    Case {
+        what: "rule 12, the top named, nearly everything copied",
+        checker,
+        steps: vec![splitting_step(12, 2, 0)],
+        copies: 500,
+    }
+}
+
+/// The stability walk alone: the last choice-box is empty of clauses to split.
+fn stability_walk(parts: usize) -> Case {
+    let (checker, count) = choices(parts);
+    // Refused by 15 in the end: the walk is done, nothing is rewritten.
+    let mut case = Case {
+        what: "rule 12, the top named, walked and then refused by 15",
+        checker,
+        steps: vec![splitting_step(12, 2 + 5 * (count - 1), 0); 20],
+        copies: 50,
+    };
+    case.checker.limits.parts = case.checker.config.parts;
+    case
+}
+
+/// Splitting a small guard, itself named, among waiting members.
+fn splitting_inside(parts: usize) -> Case {
+    let rules = format!("{WAIT}p := ((Y : (Y = a ? true ; Y = b ? true)) ? true).\n");
+    let (query, mut before, at) = among("p", parts);
+    let more = [(2, 0), (5, 0), (4, 3), (5, 3), (1, 6), (1, 8)];
+    before.extend(more.map(|(rule, place)| step(rule, at + place)));
+    Case {
+        what: "rule 12 in a small guard, itself named",
+        checker: checker(&rules, &query, &before),
+        steps: vec![splitting_step(12, at + 3, at + 2)],
+        copies: 2_000,
+    }
+}
+
+impl Case {
+    /// Nanoseconds a step: the best tenth of the copies, as others use the
+    /// machine too.
+    fn measure(&self) -> f64 {
+        let mut times = Vec::new();
+        for _ in 0..self.copies {
+            let mut checker = self.checker.clone();
+            let begin = Instant::now();
+            for &step in &self.steps {
+                let _ = std::hint::black_box(checker.step(step));
+            }
+            times.push(begin.elapsed().as_nanos() as f64 / self.steps.len() as f64);
+        }
+        times.sort_by(f64::total_cmp);
+        let best = (times.len() / 10).max(1);
+        times[..best].iter().sum::<f64>() / best as f64
+    }
+}
+
+/// The table of all measurements.
+pub fn report() -> String {
+    let kinds: [fn(usize) -> Case; 7] = [
+        storing,
+        looping,
+        quiet,
+        quiet_afresh,
+        splitting_inside,
+        stability_walk,
+        splitting,
+    ];
+    let mut text = String::from("ns a step at 500, 1,000 and 2,000 parts\n");
+    for kind in kinds {
+        let mut line = String::new();
+        let mut what = "";
+        for parts in [500, 1_000, 2_000] {
+            let case = kind(parts);
+            what = case.what;
+            let ns = case.measure();
+            let _ = write!(line, "{ns:9.0} ({:4} parts)", case.checker.config.parts);
+        }
+        let _ = writeln!(text, "{line}  {what}");
+    }
+    text
+}
