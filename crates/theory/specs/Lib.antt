@@ -1,0 +1,3 @@
+pub mod Scope
+pub mod Entails
+pub mod Transition
