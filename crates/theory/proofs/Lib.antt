@@ -6,3 +6,11 @@ pub mod Locals
 pub mod Closed
 pub mod RuleMeaning
 pub mod LocalMeaning
+pub mod Scopes
+pub mod Keeping
+pub mod Numbers
+pub mod RuleKeeps
+pub mod Passing
+pub mod Reflect
+pub mod InContext
+pub mod StepKeeps

@@ -1,3 +1,4 @@
 pub mod Scope
 pub mod Entails
 pub mod Transition
+pub mod Formed
