@@ -16,11 +16,11 @@ use Rattle.akl.specs.Places.{Place, at}
 abbrev pub Change : Type 0
 Change = Option Config
 
-abbrev becomes : {k : Kind} → ℕ → Ctx k → Node k → Change
+abbrev pub becomes : {k : Kind} → ℕ → Ctx k → Node k → Change
 becomes next χ n = some (record { root = plug χ n; next = next })
 
 -- the condition comes first
-abbrev provided : Bool → Change → Change
+abbrev pub provided : Bool → Change → Change
 provided true c = c
 provided false c = none
 

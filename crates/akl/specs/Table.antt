@@ -28,7 +28,7 @@ pub record Row : Type 0 where
   pub mode : Mode
   pub rewrites : Rewrites
 
-abbrev row : Takes → Mode → Rewrites → Row
+abbrev pub row : Takes → Mode → Rewrites → Row
 row t m r = record { takes = t; mode = m; rewrites = r }
 
 unfoldable pub table : List Row

@@ -14,3 +14,6 @@ pub mod Passing
 pub mod Reflect
 pub mod InContext
 pub mod StepKeeps
+pub mod StepMeaning
+pub mod Effects
+pub mod EffectSound

@@ -2,3 +2,4 @@ pub mod Scope
 pub mod Entails
 pub mod Transition
 pub mod Formed
+pub mod Accepts
