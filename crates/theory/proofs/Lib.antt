@@ -17,3 +17,4 @@ pub mod StepKeeps
 pub mod StepMeaning
 pub mod Effects
 pub mod EffectSound
+pub mod PlaceLaws
