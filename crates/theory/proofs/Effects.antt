@@ -45,8 +45,8 @@ listed : Takes → ℕ → Option Row → Bool
 listed t r none = true
 listed t r (some w) = not (same-kind t (w .takes)) || elem r (rules-of t)
 
-row-listed : (t : Takes) → T (all (λ r. listed t r (rule-row r)) (range 1 14))
-unfolding listed rules-of rule-row nth table all range elem
+row-listed : (t : Takes) → T (all (λ r. listed t r (rule-row r)) (range 1 (size table)))
+unfolding listed rules-of rule-row nth table all range elem size
 row-listed constraint-atom = tt
 row-listed program-atom = tt
 row-listed composition = tt
@@ -67,18 +67,18 @@ nth-below [] n x e = absurd (none-some e)
 nth-below (y ∷ l) zero x e = omega arith
 nth-below (y ∷ l) (suc n) x e = omega (arith, nth-below l n x e)
 
-row-range : (r : ℕ) (w : Row) → rule-row r ≡ some w → In r (range 1 14)
-unfolding rule-row size table
+pub row-range : (r : ℕ) (w : Row) → rule-row r ≡ some w → In r (range 1 (size table))
+unfolding rule-row
 row-range zero w e = absurd (none-some e)
   where
     none-some : _≡_ {A = Option Row} none (some w) → ⊥
     none-some q = let z : _≡_ {A = ℕ} 0 1 = cc in omega arith
-row-range (suc r) w e = In-range (suc r) 1 14 (omega arith) (omega (arith, nth-below table r w e))
+row-range (suc r) w e = In-range (suc r) 1 (size table) (omega arith) (omega (arith, nth-below table r w e))
 
 pub rule-of : (t : Takes) (r : ℕ) (w : Row) → rule-row r ≡ some w → T (same-kind t (w .takes)) → In r (rules-of t)
 unfolding listed
 rule-of t r w e k =
-    let h = all-each (λ n. listed t n (rule-row n)) (range 1 14) .0 (row-listed t) r (row-range r w e) in
+    let h = all-each (λ n. listed t n (rule-row n)) (range 1 (size table)) .0 (row-listed t) r (row-range r w e) in
     let g : T (not (same-kind t (w .takes)) || elem r (rules-of t)) = subst (λ o. T (listed t r o)) e h in
     elim (or-T (not (same-kind t (w .takes))) (elem r (rules-of t)) .0 g) [ inl n ↦ absurd (not-T (same-kind t (w .takes)) .0 n k) | inr i ↦ elem-In r (rules-of t) .0 i ]
 

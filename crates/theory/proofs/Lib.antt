@@ -18,3 +18,5 @@ pub mod StepMeaning
 pub mod Effects
 pub mod EffectSound
 pub mod PlaceLaws
+pub mod Stable
+pub mod Accepted

@@ -45,11 +45,6 @@ unfolding _+n_
 append-one nil n r = refl
 append-one (cons m l) n r = ap (cons m) (append-one l n r)
 
-append-nodes : {k : Kind} (a b c : Nodes k) → (a +n b) +n c ≡ a +n (b +n c)
-unfolding _+n_
-append-nodes nil b c = refl
-append-nodes (cons m a) b c = ap (cons m) (append-nodes a b c)
-
 append-none : {k : Kind} (l : Nodes k) → l +n nil ≡ l
 unfolding _+n_
 append-none nil = refl
