@@ -20,3 +20,4 @@ pub mod EffectSound
 pub mod PlaceLaws
 pub mod Stable
 pub mod Accepted
+pub mod StepTheorem
