@@ -21,3 +21,6 @@ pub mod PlaceLaws
 pub mod Stable
 pub mod Accepted
 pub mod StepTheorem
+pub mod Start
+pub mod AnswerSolutions
+pub mod Runs

@@ -76,7 +76,7 @@ module _ (N : ℕ) (xs : List ℕ) where
           let p = apart-append l (cons (stmt (comp a b)) r) .0 (w .5) in
           (w .0, w .1, w .2, w .3, ok-append l (cons (stmt a) (cons (stmt b) r)) N (xs ++ vs) .1 (h .0, (λ x i. h .1 .0 x (left x (numbers a) (numbers b) i), (λ x i. h .1 .0 x (right x (numbers a) (numbers b) i), h .1 .1))), apart-append l (cons (stmt a) (cons (stmt b) r)) .1 (p .0, (λ x i j. absurd i, (λ x i j. absurd i, p .1 .1)), p .2))
 
-  distinct-range : (M n : ℕ) → T (distinct (range M n))
+  pub distinct-range : (M n : ℕ) → T (distinct (range M n))
   unfolding range distinct
   distinct-range M zero = tt
   distinct-range M (suc n) = distinct-cons M (range (suc M) n) .1 (λ i. above (range-In M (suc M) n i .0), distinct-range (suc M) n)

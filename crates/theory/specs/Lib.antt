@@ -3,3 +3,4 @@ pub mod Entails
 pub mod Transition
 pub mod Formed
 pub mod Accepts
+pub mod Calls
