@@ -22,7 +22,7 @@ use Rattle.akl.specs.Stability.{locals, locals-all, is-some}
 -- "its program and statements would pass 2 to 7"
 
 -- 2: spelled as a name, as digits, as a variable, of 1 to 32 bytes
-abbrev is-small : Class → Bool
+abbrev pub is-small : Class → Bool
 is-small small = true
 is-small capital = false
 is-small digit = false
@@ -31,7 +31,7 @@ is-small blank = false
 is-small mark = false
 is-small other = false
 
-abbrev is-capital : Class → Bool
+abbrev pub is-capital : Class → Bool
 is-capital small = false
 is-capital capital = true
 is-capital digit = false
@@ -40,7 +40,7 @@ is-capital blank = false
 is-capital mark = false
 is-capital other = false
 
-abbrev begins : (Class → Bool) → Name → Bool
+abbrev pub begins : (Class → Bool) → Name → Bool
 begins p [] = false
 begins p (x ∷ w) = p (class-of x)
 

@@ -24,3 +24,5 @@ pub mod StepTheorem
 pub mod Start
 pub mod AnswerSolutions
 pub mod Runs
+pub mod TokensSpelled
+pub mod TreesSpelled

@@ -4,3 +4,4 @@ pub mod Transition
 pub mod Formed
 pub mod Accepts
 pub mod Calls
+pub mod Spelled
