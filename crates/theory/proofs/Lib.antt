@@ -26,3 +26,4 @@ pub mod AnswerSolutions
 pub mod Runs
 pub mod TokensSpelled
 pub mod TreesSpelled
+pub mod ReadFits
