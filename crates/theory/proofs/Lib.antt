@@ -27,3 +27,5 @@ pub mod Runs
 pub mod TokensSpelled
 pub mod TreesSpelled
 pub mod ReadFits
+pub mod QueryNames
+pub mod Reading

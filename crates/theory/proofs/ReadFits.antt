@@ -59,7 +59,7 @@ last-size x (y ∷ l) i e = go (last x l) refl e (λ j q. last-size x l j q)
     go none p q ih = here (same x y) q
     go (some j) p q ih = let z : suc j ≡ i = cc q in omega (arith, ih j p)
 
-last-among : (x : Name) (l : List Name) → T (among x l) → (i : ℕ) × (last x l ≡ some i)
+pub last-among : (x : Name) (l : List Name) → T (among x l) → (i : ℕ) × (last x l ≡ some i)
 unfolding last among any
 last-among x (y ∷ l) t = go (last x l) refl (or-T (same x y) (any (same x) l) .0 t) (λ u. last-among x l u)
   where
@@ -74,7 +74,7 @@ last-among x (y ∷ l) t = go (last x l) refl (or-T (same x y) (any (same x) l) 
         nope : {i : ℕ} → _≡_ {A = Option ℕ} none (some i) → ⊥
         nope q = let z : _≡_ {A = ℕ} 0 1 = cc in omega arith
 
-first-size : (x : Name) (l : List Name) → T (among x l) → (i : ℕ) × (first x l ≡ some i) × (i < size l)
+pub first-size : (x : Name) (l : List Name) → T (among x l) → (i : ℕ) × (first x l ≡ some i) × (i < size l)
 unfolding first among any size
 first-size x (y ∷ l) t = go (same x y) (or-T (same x y) (any (same x) l) .0 t) (λ u. first-size x l u)
   where
