@@ -112,6 +112,10 @@ module _ (s : St) where
       down′ x n (yes i) = new (at F x) (ready-T (s .rep) l (at F x) (λ t. n (keep-In test (s .rep x) l .1 (i, t))))
       down′ x n (no m) = old (P .rk x) (at F x) (P .down x m)
 
+  round-top : (l : List ℕ) (P : Part l) → one-round l P .top ≡ suc (P .top)
+  unfolding one-round round
+  round-top l P = refl
+
   finish : Part [] → Ranked F
   finish P = record { rk = P .rk; top = P .top; low = P .low; down = λ x. go (P .rk x) (at F x) (P .down x (λ j. j)) }
     where
@@ -123,8 +127,20 @@ module _ (s : St) where
   stuck : (v : ℕ) (l : List ℕ) → s .rep v ≡ v → ((w : ℕ) → In w (v ∷ l) → T (blockedBy (s .rep) (v ∷ l) (find w (s .bs)))) → Stuck F
   stuck v l r h = record { S = λ x. In (s .rep x) (v ∷ l); some-one = v; holds = inl r; next = λ x m. blocked-T (s .rep) (v ∷ l) (at F x) (h (s .rep x) m) }
 
-  abbrev Left : List ℕ → Type 1
-  Left l = (T (empty? l) × Ranked F) ⊎ ((T (empty? l) → ⊥) × Stuck F)
+  -- ranked, with b for a bound on the ranks
+  abbrev Below-bound : ℕ → Type 0
+  Below-bound b = (R : Ranked F) × (R .top ≤ b)
+
+  abbrev Left : ℕ → List ℕ → Type 1
+  Left b l = (T (empty? l) × Below-bound b) ⊎ ((T (empty? l) → ⊥) × Stuck F)
+
+  weaken : (a b : ℕ) (l : List ℕ) → a ≤ b → Left a l → Left b l
+  weaken a b l h (inl w) = inl (w .0, (w .1 .0, omega (arith, w .1 .1)))
+  weaken a b l h (inr w) = inr w
+
+  finish-top : (P : Part []) → finish P .top ≡ P .top
+  unfolding finish
+  finish-top P = refl
 
   keep-same : (p : ℕ → Bool) (l : List ℕ) → ((x : ℕ) → In x l → T (p x)) → keep p l ≡ l
   unfolding keep
@@ -139,16 +155,16 @@ module _ (s : St) where
   rounds-same zero l e = refl
   rounds-same (suc n) l e = ap (rounds n s) e ∙ rounds-same n l e
 
-  rounds-right : (n : ℕ) (l : List ℕ) → length l ≤ n → Part l → Left (rounds n s l)
+  rounds-right : (n : ℕ) (l : List ℕ) → length l ≤ n → (P : Part l) → Left (P .top + n) (rounds n s l)
   unfolding rounds empty? round keep
-  rounds-right zero [] h P = inl (tt, finish P)
+  rounds-right zero [] h P = inl (tt, (finish P, omega (arith, finish-top P)))
   rounds-right zero (v ∷ l) h P = absurd (omega arith)
-  rounds-right (suc n) [] h P = rounds-right n [] (omega arith) P
-  rounds-right (suc n) (v ∷ l) h P = go (keep-all (λ x. blockedBy (s .rep) (v ∷ l) (find x (s .bs))) (v ∷ l)) (λ k. rounds-right n (round s (v ∷ l)) k (one-round (v ∷ l) P))
+  rounds-right (suc n) [] h P = weaken (P .top + n) (P .top + suc n) (rounds n s []) (omega arith) (rounds-right n [] (omega arith) P)
+  rounds-right (suc n) (v ∷ l) h P = go (keep-all (λ x. blockedBy (s .rep) (v ∷ l) (find x (s .bs))) (v ∷ l)) (λ k. weaken (one-round (v ∷ l) P .top + n) (P .top + suc n) (rounds n s (round s (v ∷ l))) (omega (arith, round-top (v ∷ l) P)) (rounds-right n (round s (v ∷ l)) k (one-round (v ∷ l) P)))
     where
-      go : ((w : ℕ) → In w (v ∷ l) → T (blockedBy (s .rep) (v ∷ l) (find w (s .bs)))) ⊎ (length (round s (v ∷ l)) < length (v ∷ l)) → (length (round s (v ∷ l)) ≤ n → Left (rounds n s (round s (v ∷ l)))) → Left (rounds n s (round s (v ∷ l)))
+      go : ((w : ℕ) → In w (v ∷ l) → T (blockedBy (s .rep) (v ∷ l) (find w (s .bs)))) ⊎ (length (round s (v ∷ l)) < length (v ∷ l)) → (length (round s (v ∷ l)) ≤ n → Left (P .top + suc n) (rounds n s (round s (v ∷ l)))) → Left (P .top + suc n) (rounds n s (round s (v ∷ l)))
       go (inr k) ih = ih (omega arith)
-      go (inl b) ih = subst Left (sym (ap (rounds n s) same ∙ rounds-same n (v ∷ l) same)) (inr (λ t. t, stuck v l (P .reps v (inl refl)) b))
+      go (inl b) ih = subst (Left (P .top + suc n)) (sym (ap (rounds n s) same ∙ rounds-same n (v ∷ l) same)) (inr (λ t. t, stuck v l (P .reps v (inl refl)) b))
         where
           same : round s (v ∷ l) ≡ v ∷ l
           same = keep-same (λ x. blockedBy (s .rep) (v ∷ l) (find x (s .bs))) (v ∷ l) b
@@ -163,9 +179,10 @@ module _ (s : St) where
   keys-all [] v r n = refl
   keys-all (b ∷ bs) v r n = if-neg (ℕ-discrete v (b .0)) (λ e. n (inl (sym r ∙ ap (s .rep) e))) _ _ ∙ keys-all bs v r (λ i. n (inr i))
 
-  pub cycle-right : (T (acyclic? s) × Ranked F) ⊎ ((T (acyclic? s) → ⊥) × Stuck F)
+  -- ranks lie below the number of bindings, and one more
+  pub cycle-bound : (T (acyclic? s) × ((R : Ranked F) × (R .top ≤ suc (length (keys (s .rep) (s .bs)))))) ⊎ ((T (acyclic? s) → ⊥) × Stuck F)
   unfolding acyclic?
-  cycle-right = rounds-right (length l) l (omega arith) begin
+  cycle-bound = weaken (begin .top + length l) (suc (length l)) (rounds (length l) s l) (omega arith) (rounds-right (length l) l (omega arith) begin)
     where
       l : List ℕ
       l = keys (s .rep) (s .bs)
@@ -175,3 +192,6 @@ module _ (s : St) where
 
       begin : Part l
       begin = record { rk = λ x. 0; top = 1; low = λ x. omega arith; reps = keys-reps (s .bs); down = λ x n. free-under (at F x) (keys-all (s .bs) (s .rep x) (s .idem x) n) }
+
+  pub cycle-right : (T (acyclic? s) × Ranked F) ⊎ ((T (acyclic? s) → ⊥) × Stuck F)
+  cycle-right = elim cycle-bound [ inl w ↦ inl (w .0, w .1 .0) | inr w ↦ inr w ]

@@ -25,7 +25,7 @@ unfolding solve
 solve-ok s p ρ = run-ok (suc (costs p + held (s .bs))) s p (omega arith) ρ
 
 -- telling a store to a state s gives exactly the solutions of both; from the start, those of the store
-start-ok : (p : Store) (ρ : Asg) → Sats ρ p ↔ Means ρ (solve start p)
+pub start-ok : (p : Store) (ρ : Asg) → Sats ρ p ↔ Means ρ (solve start p)
 unfolding start
 start-ok p ρ = (λ h. solve-ok start p ρ .0 (λ x. refl, h), λ h. solve-ok start p ρ .1 h .1)
 

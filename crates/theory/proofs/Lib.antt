@@ -29,3 +29,4 @@ pub mod TreesSpelled
 pub mod ReadFits
 pub mod QueryNames
 pub mod Reading
+pub mod Shows

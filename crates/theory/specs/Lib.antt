@@ -5,3 +5,4 @@ pub mod Formed
 pub mod Accepts
 pub mod Calls
 pub mod Spelled
+pub mod Shown

@@ -1,0 +1,70 @@
+-- What an answer's text shows: terms whose unknowns are numbered by first appearance, and the trees that fit them.
+use mathlib.Core.Path.{_≡_}
+use mathlib.Core.List.{List, [], _∷_, _++_}
+use mathlib.Core.Option.{Option, some, none}
+use Prim.Native.Nat.{ℕ, zero, suc}
+use Rattle.constraint.specs.Tree.{Tree, Forest, node, fnil, fcons}
+use Rattle.constraint.specs.Constraint.{Asg, trees}
+use Rattle.constraint.specs.Solve.{St, start, solve}
+use Rattle.akl.specs.Base.{Name, bytes, size, range, decimal}
+use Rattle.akl.specs.Answers.{Answer, Term, unbound, built, Terms, no-terms, more-terms, terms, value, unknowns-all, position}
+
+-- The tree of a term, with τ for its unknowns.
+abbrev mutual
+  pub tree-of : Term → Asg → Tree
+  tree-of (unbound i) τ = τ i
+  tree-of (built f ts) τ = node f (forest-of ts τ)
+
+  pub forest-of : Terms → Asg → Forest
+  forest-of no-terms τ = fnil
+  forest-of (more-terms t ts) τ = fcons (tree-of t τ) (forest-of ts τ)
+
+-- "The trees that fit the text, with any trees for `_0`, `_1` and so on": the query's variables 0 to q - 1 have the trees
+-- of the terms.
+abbrev pub FitsText : ℕ → Terms → Asg → Type 0
+FitsText q ts ρ = (τ : Asg) × (trees ρ (range 0 q) ≡ forest-of ts τ)
+
+-- Unknowns numbered by their place in the list of those seen.
+unfoldable mutual
+  pub numbered-term : Term → List ℕ → Term
+  numbered-term (unbound r) seen = unbound (position r seen)
+  numbered-term (built f ts) seen = built f (numbered-terms ts seen)
+
+  pub numbered-terms : Terms → List ℕ → Terms
+  numbered-terms no-terms seen = no-terms
+  numbered-terms (more-terms t ts) seen = more-terms (numbered-term t seen) (numbered-terms ts seen)
+
+-- The terms that an answer's text shows.
+abbrev pub solved-terms : ℕ → Option St → Terms
+solved-terms q none = no-terms
+solved-terms q (some s) = terms (value (suc (size (s .bs))) s) (range 0 q)
+
+abbrev pub class-terms : ℕ → Answer → Terms
+class-terms q a = solved-terms q (solve start (a .1))
+
+abbrev pub shown-terms : ℕ → Answer → Terms
+shown-terms q a = numbered-terms (class-terms q a) (unknowns-all (class-terms q a) [])
+
+-- The text of such terms.
+unfoldable mutual
+  pub term-bytes : Term → List ℕ
+  term-bytes (unbound i) = bytes "_" ++ decimal i
+  term-bytes (built f ts) = f ++ arguments-bytes ts
+
+  pub arguments-bytes : Terms → List ℕ
+  arguments-bytes no-terms = []
+  arguments-bytes (more-terms t ts) = bytes "(" ++ term-bytes t ++ rest-bytes ts
+
+  pub rest-bytes : Terms → List ℕ
+  rest-bytes no-terms = bytes ")"
+  rest-bytes (more-terms t ts) = bytes "," ++ term-bytes t ++ rest-bytes ts
+
+unfoldable pub bindings-bytes : List Name → Terms → List ℕ
+bindings-bytes [] ts = []
+bindings-bytes (x ∷ xs) no-terms = []
+bindings-bytes (x ∷ []) (more-terms t ts) = x ++ bytes " = " ++ term-bytes t
+bindings-bytes (x ∷ (y ∷ xs)) (more-terms t ts) = x ++ bytes " = " ++ term-bytes t ++ bytes ", " ++ bindings-bytes (y ∷ xs) ts
+
+abbrev pub line-bytes : List Name → Terms → List ℕ
+line-bytes [] ts = bytes "true"
+line-bytes (x ∷ xs) ts = bindings-bytes (x ∷ xs) ts
