@@ -18,7 +18,7 @@ use Rattle.akl.specs.Meaning.{Model, Holds, nothing, HoldsWith, All, Any, Allow
 use Rattle.theory.specs.Calls.{AnswerIn, AllowedBy}
 
 -- lists of answers
-in-answers : (a : Answer) (x y : List Answer) → AnswerIn a (x ++ y) → AnswerIn a x ⊎ AnswerIn a y
+pub in-answers : (a : Answer) (x y : List Answer) → AnswerIn a (x ++ y) → AnswerIn a x ⊎ AnswerIn a y
 in-answers a [] y i = inr i
 in-answers a (b ∷ x) y (inl e) = inl (inl e)
 in-answers a (b ∷ x) y (inr i) = elim (in-answers a x y i) [ inl j ↦ inl (inr j) | inr j ↦ inr j ]

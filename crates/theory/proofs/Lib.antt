@@ -30,3 +30,6 @@ pub mod ReadFits
 pub mod QueryNames
 pub mod Reading
 pub mod Shows
+pub mod SameTerms
+pub mod Printed
+pub mod SameText
