@@ -86,7 +86,7 @@ module _ (N N′ : ℕ) (more : N ≤ N′) where
   keep-and xs vs σ l r n n′ K = record {
     ok = λ w u. (w .0, λ x i. omega (arith, w .1 x i), w .2, w .3, ok-around (xs ++ vs) l r n n′ K (below-append xs vs N u (w .1)) (w .4), apart-mid (xs ++ vs) l r n n′ (K .old-or-fresh) (w .4) (w .5));
     old-or-fresh = fresh-and;
-    share = λ x s. s
+    share = λ x s. s;
   }
     where
       fresh-and : (x : ℕ) → In x (vs ++ locals-all (l +n cons n′ r)) → In x (vs ++ locals-all (l +n cons n r)) ⊎ (N ≤ x)

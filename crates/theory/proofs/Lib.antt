@@ -33,3 +33,6 @@ pub mod Shows
 pub mod SameTerms
 pub mod Printed
 pub mod SameText
+pub mod Demand3
+pub mod StaysStable
+pub mod Losses

@@ -224,7 +224,6 @@ module _ (P : Program) where
         let k1 = and-T (statement-fits g P no-number (n + m)) (statement-fits b P no-number (n + m)) .0 (k2 .0) in
         elim (In-append x (numbers g ++ numbers b) (clauses-numbers cs) .0 i) [ inl j ↦ elim (In-append x (numbers g) (numbers b) .0 j) [ inl o ↦ fits-none g (n + m) (k1 .0) x o | inr o ↦ fits-none b (n + m) (k1 .1) x o ] | inr j ↦ clauses-none cs n (k2 .1) x j ]
 
-
   body-of : (ds : Program) (p : Name) (n : ℕ) (b : Stmt) → T (all (definition-passes P) ds) → defined ds p n ≡ some b → Passes P no-number n b
   unfolding all defined definition-passes
   body-of [] p n b h e = absurd (none-some e)

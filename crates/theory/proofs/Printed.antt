@@ -217,7 +217,6 @@ mutual
       differ z = omega arith
   rest-inj (more-terms s ss) (more-terms t ts) p q r r′ e = pair-inj s ss t ts r r′ (λ u v c d f. term-inj s t (p .0) (q .0) u v c d f) (λ u v f. rest-inj ss ts (p .1) (q .1) u v f) (heads 44 44 ((term-bytes s ++ rest-bytes ss) ++ r) ((term-bytes t ++ rest-bytes ts) ++ r′) e .1)
 
-
 -- ---------------------------------------------------------------------------------------------
 -- Lines, for the same names.
 

@@ -265,22 +265,31 @@ formed-iff limit P xs c = (to-it, from-it)
 
     t1 : Bool
     t1 = program-passes P
+
     t2 : Bool
     t2 = names-pass xs
+
     t3 : Bool
     t3 = is-or n
+
     t4 : Bool
     t4 = statements-pass n P
+
     t5 : Bool
     t5 = no-interference n
+
     t6 : Bool
     t6 = in-scope n []
+
     t7 : Bool
     t7 = query-locals n q
+
     t8 : Bool
     t8 = all (λ x. ltb x N) nums
+
     t9 : Bool
     t9 = leb N (suc last-number)
+
     t10 : Bool
     t10 = leb (parts n) limit
 
@@ -305,7 +314,7 @@ formed-iff limit P xs c = (to-it, from-it)
           query = query-T n q .0 (a6 .1);
           above = range-below q N .0 (below-left (range 0 q) (all-numbers n) N b);
           last = leb→le N (suc last-number) (a8 .1);
-          fit = leb→le (parts n) limit (a9 .1)
+          fit = leb→le (parts n) limit (a9 .1);
         }
 
     from-it : Formed limit P xs c → T (t1 && t2 && t3 && t4 && t5 && t6 && t7 && t8 && t9 && t10)

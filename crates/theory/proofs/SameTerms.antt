@@ -146,7 +146,6 @@ module _ (τ τ′ : Asg) where
   abbrev Themselves : ℕ → Type 0
   Themselves n = (i : ℕ) → i < n → (τ i ≡ own i) × (τ′ i ≡ own i)
 
-
   unknown-case : (i j n a b : ℕ) → Numbered (unbound i) n a → Numbered (unbound j) n b → Themselves n → own i ≡ τ j → own j ≡ τ′ i → (i ≡ j) × ((a ≡ b) × Themselves a)
   unknown-case i j n a b (inl x) (inl y) h e f = (own-inj i j (e ∙ h j (y .0) .0), (x .1 ∙ sym (y .1), λ k l. h k (omega (arith, x .1))))
   unknown-case i j n a b (inl x) (inr y) h e f = absurd (clash (own-inj j i (f ∙ h i (x .0) .1)))

@@ -125,7 +125,7 @@ module _ (limit : ℕ) (P : Program) (xs : List Name) (c : Config) (s : Step) (d
     query = subst (λ g. QueryLocal g q) (sym (h .result)) (query-context (h .context) (h .before) (h .after) q (transition-query P (c .next) q (h .transition)) higher (subst (λ g. QueryLocal g q) (sym same) (f .query)));
     above = omega (arith, f .above, more);
     last = h .numbers-left;
-    fit = h .fit
+    fit = h .fit;
   }
 
   -- the two configurations, where nothing is around them

@@ -24,7 +24,6 @@ Inside χ n p = (place-number χ ≤ p) × (p < place-number χ + count n)
 abbrev pub Undisturbed : Program → Config → {k : Kind} → Ctx k → Node k → Type 0
 Undisturbed P c χ n = (p r : ℕ) (pl : Place) (k : Kind) (χ′ : Ctx k) (m m′ : Node k) (N′ : ℕ) → place c p ≡ some pl → ¬ (r ≡ splitting) → Transition P (c .next) r pl k χ′ m m′ N′ → ¬ Inside χ n (place-number χ′)
 
-
 abbrev pub Each : {A : Type 0} → (A → Type 0) → List A → Type 0
 Each Q [] = Unit {0}
 Each Q (x ∷ l) = Q x × Each Q l
