@@ -129,3 +129,8 @@ pub size-range : (N m : ℕ) → size (range N m) ≡ m
 unfolding size range
 size-range N zero = refl
 size-range N (suc m) = ap suc (size-range (suc N) m)
+
+pub size-append : {A : Type 0} (a b : List A) → size (a ++ b) ≡ size a + size b
+unfolding size
+size-append [] b = omega arith
+size-append (x ∷ a) b = omega (arith, size-append a b)

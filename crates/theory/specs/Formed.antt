@@ -1,16 +1,18 @@
 -- Well-formedness as propositions: document 01's sentence, part by part (akl: WellFormed has it as a test).
 use mathlib.Core.List.{List, [], _∷_, _++_}
+use mathlib.Core.Bool.{true}
 use Prim.Native.Nat.{ℕ, suc, _≤_}
 use lib.Dec.{T}
 use Rattle.constraint.specs.Constraint.{In}
 use Rattle.akl.specs.Base.{Name, size, range}
 use Rattle.akl.specs.Limits.{last-number}
 use Rattle.akl.specs.Syntax.{Program}
+use Rattle.akl.specs.Reader.{Query}
 use Rattle.akl.specs.Configuration.{Kind, Node, or, and, stmt, choice-box, guard, Nodes, nil, cons, Config}
 use Rattle.akl.specs.Parts.{parts}
 use Rattle.akl.specs.Stability.{locals-all}
-use Rattle.akl.specs.WellFormed.{program-passes, names-pass, is-or, statements-pass}
-use Rattle.theory.specs.Scope.{Sub, Ok}
+use Rattle.akl.specs.WellFormed.{program-passes, names-pass, is-or, statement-passes, statements-pass, numbers}
+use Rattle.theory.specs.Scope.{Sub, Below, Ok}
 
 -- no variable of the query
 abbrev pub High : ℕ → List ℕ → Type 0
@@ -39,3 +41,9 @@ pub record Formed (limit : ℕ) (P : Program) (xs : List Name) (c : Config) : Ty
   pub above : size xs ≤ c .next
   pub last : c .next ≤ suc last-number
   pub fit : parts (c .root) ≤ limit
+
+-- A query as the reader gives it: its variables' names pass, its statement passes 2 to 7 and has no variables but these.
+pub record QueryFits (P : Program) (q : Query) : Type 0 where
+  pub names : T (names-pass (q .variables))
+  pub passes : T (statement-passes P (λ x. true) 0 (q .statement))
+  pub own : Below (numbers (q .statement)) (size (q .variables))

@@ -1,11 +1,11 @@
 -- The rules as source 000 has them: G → G′ in a context χ, with quiet and incompatible said of trees. A transition also
 -- names its rule's number and place in document 01, and the next fresh number before and after.
 use mathlib.Core.Path.{_≡_}
-use mathlib.Core.Logic.{_⊎_}
+use mathlib.Core.Logic.{_⊎_, inl, inr}
 use mathlib.Core.List.{List, [], _∷_, _++_}
 use mathlib.Core.Option.{some}
 use Prim.Native.Nat.{ℕ, _+_}
-use Rattle.constraint.specs.Constraint.{Con, Store, Satisfiable, Quiet}
+use Rattle.constraint.specs.Constraint.{Con, ctrue, Store, Satisfiable, Quiet}
 use Rattle.akl.specs.Base.{Name, size, range}
 use Rattle.akl.specs.Syntax.{Var, Op, wait, cond, commit, Stmt, atom, call, comp, hide, choice, Clauses, Program, defined, opened}
 use Rattle.akl.specs.Configuration.{Kind, goal, member, guarded, Node, or, and, stmt, choice-box, guard, Nodes, nil, cons, _+n_, one, failure, Ctx, in-or, in-and, in-choice, in-guard, env}

@@ -1,0 +1,58 @@
+-- When a step is accepted, said by the rules' relation: the place has the number, a transition of that rule stands there,
+-- the argument is as it must be, and the limits hold. Stable and inside are said of transitions and trees.
+use mathlib.Core.Path.{_≡_}
+use mathlib.Core.List.{List, [], _∷_}
+use mathlib.Core.Option.{Option, some}
+use Prim.Native.Nat.{ℕ, suc, _+_, _≤_, _<_}
+use Rattle.constraint.specs.Constraint.{Store, Quiet}
+use Rattle.akl.specs.Limits.{last-number}
+use Rattle.akl.specs.Syntax.{Program}
+use Rattle.akl.specs.StepsText.{Step}
+use Rattle.akl.specs.Configuration.{Kind, Node, Ctx, plug, env, Config}
+use Rattle.akl.specs.Places.{Place, at, place, count, place-number, holder-number}
+use Rattle.akl.specs.Parts.{parts}
+use Rattle.akl.specs.Stability.{locals, stores-down}
+use Rattle.akl.specs.Step.{splitting, box-of}
+use Rattle.theory.specs.Transition.{Transition}
+
+-- The place of number p is at or inside the node in its context.
+abbrev pub Inside : {k : Kind} → Ctx k → Node k → ℕ → Type 0
+Inside χ n p = (place-number χ ≤ p) × (p < place-number χ + count n)
+
+-- "no determinate step rewrites it or anything inside it": no transition of a rule but 12, at a place of the
+-- configuration, has the goal that it rewrites there.
+abbrev pub Undisturbed : Program → Config → {k : Kind} → Ctx k → Node k → Type 0
+Undisturbed P c χ n = (p r : ℕ) (pl : Place) (k : Kind) (χ′ : Ctx k) (m m′ : Node k) (N′ : ℕ) → place c p ≡ some pl → ¬ (r ≡ splitting) → Transition P (c .next) r pl k χ′ m m′ N′ → ¬ Inside χ n (place-number χ′)
+
+abbrev pub Each : {A : Type 0} → (A → Type 0) → List A → Type 0
+Each Q [] = Unit {0}
+Each Q (x ∷ l) = Q x × Each Q l
+
+-- "and for each and-box at or inside it, the stores from the goal down to that box are together quiet, with all locals
+-- inside the goal as V, for the goal's environment"
+abbrev pub Stable : Program → Config → Place → Type 0
+Stable P c (at χ n) = Undisturbed P c χ n × Each (Quiet (locals n) (env χ)) (stores-down n [])
+
+-- "the place of a stable goal that is or contains the and-box"
+abbrev pub Holds-box : Place → ℕ → Type 0
+Holds-box (at χ n) p = Inside χ n p
+
+pub record StableAround (P : Program) (c : Config) (pl : Place) (a : ℕ) : Type 0 where
+  pub around : Place
+  pub is-place : place c a ≡ some around
+  pub contains : Holds-box around (box-of pl)
+  pub stable : Stable P c around
+
+pub record Accepts (limit : ℕ) (P : Program) (c : Config) (s : Step) (d : Config) : Type 0 where
+  pub at-place : Place
+  pub is-place : place c (s .place) ≡ some at-place
+  pub kind : Kind
+  pub context : Ctx kind
+  pub before : Node kind
+  pub after : Node kind
+  pub transition : Transition P (c .next) (s .rule) at-place kind context before after (d .next)
+  pub result : d .root ≡ plug context after
+  pub no-argument : ¬ (s .rule ≡ splitting) → s .argument ≡ 0
+  pub argument : s .rule ≡ splitting → StableAround P c at-place (s .argument)
+  pub numbers-left : d .next ≤ suc last-number
+  pub fit : parts (d .root) ≤ limit

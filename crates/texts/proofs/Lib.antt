@@ -1,0 +1,5 @@
+pub mod TokensSpelled
+pub mod TreesSpelled
+pub mod ReadFits
+pub mod QueryNames
+pub mod Reading
