@@ -4,6 +4,7 @@
 use crate::checker::Checker;
 use crate::config::Place;
 use crate::reader::{read_program, read_query};
+use crate::record::{record, Texts};
 use crate::steps::Step;
 use std::fmt::Write;
 use std::time::Instant;
@@ -114,20 +115,25 @@ fn quiet_afresh(parts: usize) -> Case {
 }
 
 /// An and-box of many choice-boxes, two solved guards each.
-fn choices(parts: usize) -> (Checker, usize) {
+fn choices(parts: usize) -> Checker {
     let count = parts / 9;
     let rules = "c(X,Y) := (X=a?true;Y=b?true).\n";
     let query = "c(X,Y),".repeat(count - 1) + "c(X,Y).";
     let mut before: Vec<Step> = apart(2, count).collect();
-    for at in (0..count).map(|i| 2 + 5 * i) {
-        before.extend([step(2, at), step(5, at), step(1, at + 3), step(1, at + 5)]);
-    }
-    (checker(rules, &query, &before), count)
+    before.extend(guards(count));
+    checker(rules, &query, &before)
+}
+
+/// The steps that unfold `count` atoms from place 2 on into choice-boxes of two
+/// guards and store these.
+fn guards(count: usize) -> impl Iterator<Item = Step> {
+    let at = (0..count).map(|i| 2 + 5 * i);
+    at.flat_map(|at| [step(2, at), step(5, at), step(1, at + 3), step(1, at + 5)])
 }
 
 /// Splitting with the top named: all goals are walked, nearly all is copied.
 fn splitting(parts: usize) -> Case {
-    let (mut checker, _) = choices(parts);
+    let mut checker = choices(parts);
     checker.limits.parts = 2 * parts;
     Case {
         what: "rule 12, the top named, nearly everything copied",
@@ -137,18 +143,44 @@ fn splitting(parts: usize) -> Case {
     }
 }
 
-/// The stability walk alone: the last choice-box is empty of clauses to split.
+/// The stability walk alone: refused by 15 in the end, nothing is rewritten.
 fn stability_walk(parts: usize) -> Case {
-    let (checker, count) = choices(parts);
-    // Refused by 15 in the end: the walk is done, nothing is rewritten.
-    let mut case = Case {
+    let mut checker = choices(parts);
+    checker.limits.parts = checker.config.parts;
+    Case {
         what: "rule 12, the top named, walked and then refused by 15",
         checker,
-        steps: vec![splitting_step(12, 2 + 5 * (count - 1), 0); 20],
+        steps: vec![splitting_step(12, 2, 0); 20],
         copies: 50,
-    };
-    case.checker.limits.parts = case.checker.config.parts;
-    case
+    }
+}
+
+/// A stability walk made hard: each guard lets an old variable, which stands in
+/// a term, be f of a long chain of terms, so the search for cycles runs through
+/// the chain for every guard.
+fn hard_walk(parts: usize) -> Case {
+    let (links, count) = (parts / 4, parts / 18);
+    let rules = "s(X) := (C : X = f(C), (true | s(C) ; true | true)).\n\
+                 c(X,Y) := (X=f(Y)?true;X=f(Y)?true).\n";
+    let query = "s(Y), W = f(X),".to_string() + &"c(X,Y),".repeat(count - 1) + "c(X,Y).";
+    let mut before: Vec<Step> = apart(2, count + 2).collect();
+    let link = [(2, 2), (4, 2), (3, 2), (1, 2), (5, 2)];
+    let link = link.map(|(rule, place)| step(rule, place));
+    for _ in 0..links {
+        before.extend(link);
+        before.extend([step(1, 5), step(8, 3), step(6, 2)]);
+    }
+    before.extend(link);
+    before.extend([step(1, 8), step(8, 6), step(6, 2), step(1, 2), step(1, 2)]);
+    before.extend(guards(count));
+    let mut checker = checker(rules, &query, &before);
+    checker.limits.parts = checker.config.parts;
+    Case {
+        what: "the same made hard: the search for cycles runs through a long chain each time",
+        checker,
+        steps: vec![splitting_step(12, 2, 0); 20],
+        copies: 50,
+    }
 }
 
 /// Splitting a small guard, itself named, among waiting members.
@@ -166,46 +198,74 @@ fn splitting_inside(parts: usize) -> Case {
 }
 
 impl Case {
-    /// Nanoseconds a step: the best tenth of the copies, as others use the
-    /// machine too.
+    /// Nanoseconds a step, the least of all copies: others use the machine too.
     fn measure(&self) -> f64 {
-        let mut times = Vec::new();
+        let mut least = f64::INFINITY;
         for _ in 0..self.copies {
             let mut checker = self.checker.clone();
             let begin = Instant::now();
             for &step in &self.steps {
                 let _ = std::hint::black_box(checker.step(step));
             }
-            times.push(begin.elapsed().as_nanos() as f64 / self.steps.len() as f64);
+            least = least.min(begin.elapsed().as_nanos() as f64 / self.steps.len() as f64);
         }
-        times.sort_by(f64::total_cmp);
-        let best = (times.len() / 10).max(1);
-        times[..best].iter().sum::<f64>() / best as f64
+        least
     }
 }
 
-/// The table of all measurements.
+/// A run of 2,038 steps from its texts to its record: all is read, 1,017
+/// constraints are stored and an and-box of 1,020 parts is split.
+fn whole_run() -> f64 {
+    let texts = Texts {
+        rules: vec![],
+        query: format!("(true?true;true?true){}.", ",X=a".repeat(1_017)).into_bytes(),
+        steps: format!(
+            "3 2 0\n{}1 3 0\n5 2 0\n1 5 0\n1 7 0\n12 2 1\n",
+            "3 3 0\n1 3 0\n".repeat(1_016)
+        )
+        .into_bytes(),
+    };
+    let expected: &[u8] = b"accepted 2038\nrefusal 0\nstate open\n";
+    let mut least = f64::INFINITY;
+    for _ in 0..50 {
+        let begin = Instant::now();
+        assert_eq!(std::hint::black_box(record(&texts)), expected);
+        least = least.min(begin.elapsed().as_nanos() as f64);
+    }
+    least
+}
+
+/// The table of all measurements, each the least of several rounds.
 pub fn report() -> String {
-    let kinds: [fn(usize) -> Case; 7] = [
+    let kinds: [fn(usize) -> Case; 8] = [
         storing,
         looping,
         quiet,
         quiet_afresh,
         splitting_inside,
         stability_walk,
+        hard_walk,
         splitting,
     ];
-    let mut text = String::from("ns a step at 500, 1,000 and 2,000 parts\n");
-    for kind in kinds {
-        let mut line = String::new();
-        let mut what = "";
-        for parts in [500, 1_000, 2_000] {
-            let case = kind(parts);
-            what = case.what;
-            let ns = case.measure();
-            let _ = write!(line, "{ns:9.0} ({:4} parts)", case.checker.config.parts);
+    let sizes = [500, 1_000, 2_000];
+    let cases: Vec<Case> = kinds.iter().flat_map(|kind| sizes.map(kind)).collect();
+    let mut least = vec![f64::INFINITY; cases.len()];
+    for _ in 0..4 {
+        for (case, least) in cases.iter().zip(&mut least) {
+            *least = least.min(case.measure());
         }
-        let _ = writeln!(text, "{line}  {what}");
     }
+    let mut text = String::from("ns a step, in brackets the parts of the configuration\n");
+    for (cases, least) in cases.chunks(sizes.len()).zip(least.chunks(sizes.len())) {
+        for (case, ns) in cases.iter().zip(least) {
+            let _ = write!(text, "{ns:7.0} ({:4})", case.checker.config.parts);
+        }
+        let _ = writeln!(text, "  {}", cases[0].what);
+    }
+    let _ = writeln!(
+        text,
+        "{:.0} ns: a run of 2,038 steps from its texts",
+        whole_run()
+    );
     text
 }

@@ -5,6 +5,7 @@
 //! child, left to right", and is patched by each step, so that a place is found
 //! at once and the places of a goal are one range.
 
+use crate::chain::{Chain, Pool};
 use crate::names::Name;
 use crate::syntax::{Code, Level, Operator, Query, Run, StatementId};
 
@@ -76,11 +77,12 @@ impl Arguments {
 }
 
 /// The contents of an and-box besides its members.
-#[derive(Clone, Debug, Default)]
+#[derive(Clone, Copy, Debug)]
 pub struct AndBox {
-    pub locals: Vec<Variable>,
-    /// Constraints are only ever added at the end.
-    pub store: Vec<Constraint>,
+    /// In `Config::locals`.
+    pub locals: Chain,
+    /// In `Config::constraints`; they are only ever added at the end.
+    pub store: Chain,
     /// No two and-boxes of a run have the same stamp.
     pub stamp: u64,
 }
@@ -100,12 +102,15 @@ pub(crate) struct Node {
 }
 
 /// A configuration.
-#[derive(Clone, Debug, Default)]
+#[derive(Clone, Debug)]
 pub struct Config {
     pub(crate) nodes: Vec<Node>,
     pub(crate) free_nodes: Vec<Goal>,
     pub(crate) ands: Vec<AndBox>,
     pub(crate) free_ands: Vec<AndId>,
+    /// The local variables and the constraints of all and-boxes.
+    pub locals: Pool<Variable>,
+    pub constraints: Pool<Constraint>,
     /// All goals in the order of their places.
     pub(crate) order: Vec<Goal>,
     /// The variables that levels stand for, frame after frame.
@@ -123,26 +128,34 @@ pub struct Config {
     pub next: u32,
 }
 
-/// `frames` may grow to this, or twice what is in use, before it is tidied.
-const FRAMES: usize = 1 << 15;
+/// Pools may grow to this, or twice what is in use, before they are tidied.
+const TIDY: usize = 1 << 14;
 
 impl Config {
     /// "The start is an or-box with one and-box, whose local variables are the
     /// query's and whose one member is the query."
     pub fn start(query: &Query) -> Config {
         let mut config = Config {
+            nodes: Vec::new(),
+            free_nodes: Vec::new(),
+            ands: Vec::new(),
+            free_ands: Vec::new(),
+            locals: Pool::new(TIDY),
+            constraints: Pool::new(TIDY),
+            order: Vec::new(),
             frames: (0..crate::limits::QUERY_VARIABLES as u16)
                 .map(Variable)
                 .collect(),
-            frames_full: FRAMES,
-            frames_least: FRAMES,
+            frames_full: TIDY,
+            frames_least: TIDY,
+            stamps: 0,
+            copies: Vec::new(),
+            parts: 0,
             next: query.variables.len() as u32,
-            ..Config::default()
         };
         let top = config.new_goal(Shape::Or);
         let id = config.new_and();
-        let count = query.variables.len() as u16;
-        config.and_mut(id).locals.extend((0..count).map(Variable));
+        config.add_locals(id, 0..query.variables.len() as u16);
         let and = config.new_goal(Shape::And(id));
         let member = config.new_goal(Shape::Member(Closure {
             statement: query.statement,
@@ -203,8 +216,14 @@ impl Config {
         &self.ands[usize::from(id.0)]
     }
 
-    pub fn and_mut(&mut self, id: AndId) -> &mut AndBox {
-        &mut self.ands[usize::from(id.0)]
+    /// The local variables of an and-box, the last first.
+    pub fn locals_of(&self, id: AndId) -> impl Iterator<Item = &Variable> {
+        self.locals.iter(self.and(id).locals)
+    }
+
+    /// The constraints of an and-box, the last first.
+    pub fn store_of(&self, id: AndId) -> impl Iterator<Item = &Constraint> {
+        self.constraints.iter(self.and(id).store)
     }
 
     /// The and-box contents of a goal that is an and-box without members: "with
@@ -286,9 +305,9 @@ impl Config {
     }
 
     /// The variables that `opened` will take for so many hidden ones.
-    pub fn fresh(&self, hidden: u16) -> impl Iterator<Item = Variable> {
+    pub fn fresh(&self, hidden: u16) -> std::ops::Range<u16> {
         let first = self.next as u16;
-        (first..first + hidden).map(Variable)
+        first..first + hidden
     }
 
     /// Statement `inner` of `closure`, with `hidden` fresh variables for the
@@ -315,7 +334,7 @@ impl Config {
             copy
         };
         let fresh = self.fresh(hidden);
-        self.frames.extend(fresh);
+        self.frames.extend(fresh.map(Variable));
         self.next += u32::from(hidden);
         Closure {
             statement: inner,
@@ -323,17 +342,30 @@ impl Config {
         }
     }
 
-    /// Lets unused frames be dropped as soon as there can be any.
+    /// Lets what is unused be dropped as soon as there can be any.
     pub fn tidy_often(&mut self) {
-        self.frames_least = 0;
-        self.frames_full = 0;
+        (self.frames_full, self.frames_least) = (0, 0);
+        self.locals.tidy_often();
+        self.constraints.tidy_often();
     }
 
-    /// Drops frames that no statement uses, once they have piled up.
+    /// Drops frames, locals and constraints that no goal uses, once they have
+    /// piled up.
     pub fn tidy(&mut self, code: &Code) {
-        if self.frames.len() < self.frames_full {
-            return;
+        if self.locals.is_full() {
+            self.locals
+                .tidy(self.ands.iter_mut().map(|and| &mut and.locals));
         }
+        if self.constraints.is_full() {
+            self.constraints
+                .tidy(self.ands.iter_mut().map(|and| &mut and.store));
+        }
+        if self.frames.len() >= self.frames_full {
+            self.tidy_frames(code);
+        }
+    }
+
+    fn tidy_frames(&mut self, code: &Code) {
         let mut used: Vec<(u32, usize, Goal)> = Vec::new();
         for &goal in &self.order {
             if let Shape::Guarded(closure) | Shape::Member(closure) = self.shape(goal) {

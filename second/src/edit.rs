@@ -1,6 +1,7 @@
 //! Rebuilding the tree of a configuration: making, linking and freeing goals.
 
-use crate::config::{some, AndBox, AndId, Config, Goal, Node, Shape, NONE};
+use crate::chain::Chain;
+use crate::config::{some, AndBox, AndId, Config, Constraint, Goal, Node, Shape, Variable, NONE};
 
 /// Rebuilding the tree. These functions leave `order` and `parts` alone.
 impl Config {
@@ -28,24 +29,49 @@ impl Config {
 
     /// New and-box contents: no locals, empty store.
     pub(crate) fn new_and(&mut self) -> AndId {
+        self.copy_and(Chain::EMPTY, Chain::EMPTY)
+    }
+
+    /// New and-box contents with the locals and store of another.
+    fn copy_and(&mut self, locals: Chain, store: Chain) -> AndId {
         self.stamps += 1;
-        let stamp = self.stamps;
+        let and = AndBox {
+            locals,
+            store,
+            stamp: self.stamps,
+        };
         if let Some(id) = self.free_ands.pop() {
-            self.and_mut(id).stamp = stamp;
+            self.ands[usize::from(id.0)] = and;
             return id;
         }
-        self.ands.push(AndBox {
-            stamp,
-            ..AndBox::default()
-        });
+        self.ands.push(and);
         AndId(self.ands.len() as u16 - 1)
     }
 
-    /// Gives back and-box contents; the vectors keep their room.
+    pub(crate) fn add_locals(&mut self, id: AndId, locals: std::ops::Range<u16>) {
+        let and = &mut self.ands[usize::from(id.0)];
+        for local in locals {
+            self.locals.append(&mut and.locals, Variable(local));
+        }
+    }
+
+    pub(crate) fn add_constraint(&mut self, id: AndId, constraint: Constraint) {
+        let and = &mut self.ands[usize::from(id.0)];
+        self.constraints.append(&mut and.store, constraint);
+    }
+
+    /// Adds locals and store of an and-box to the ends of those of another.
+    pub(crate) fn add_contents(&mut self, from: AndId, to: AndId) {
+        let AndBox { locals, store, .. } = *self.and(from);
+        let and = &mut self.ands[usize::from(to.0)];
+        self.locals.append_all(&mut and.locals, locals);
+        self.constraints.append_all(&mut and.store, store);
+    }
+
+    /// Gives back and-box contents.
     pub(crate) fn free_and(&mut self, id: AndId) {
-        let and = self.and_mut(id);
-        and.locals.clear();
-        and.store.clear();
+        let and = &mut self.ands[usize::from(id.0)];
+        (and.locals, and.store) = (Chain::EMPTY, Chain::EMPTY);
         self.free_ands.push(id);
     }
 
@@ -53,13 +79,8 @@ impl Config {
     pub(crate) fn copy_goal(&mut self, goal: Goal) -> Goal {
         let shape = match self.shape(goal) {
             Shape::And(id) => {
-                let copy = self.new_and();
-                let mut to = std::mem::take(self.and_mut(copy));
-                let from = self.and(id);
-                to.locals.extend_from_slice(&from.locals);
-                to.store.extend_from_slice(&from.store);
-                *self.and_mut(copy) = to;
-                Shape::And(copy)
+                let AndBox { locals, store, .. } = *self.and(id);
+                Shape::And(self.copy_and(locals, store))
             }
             shape => shape,
         };
@@ -74,15 +95,6 @@ impl Config {
     /// The last copy made of a goal.
     pub(crate) fn copy_of(&self, goal: Goal) -> Goal {
         self.copies[usize::from(goal.0)]
-    }
-
-    /// Moves locals and store to the ends of those of another and-box.
-    pub(crate) fn move_contents(&mut self, from: AndId, to: AndId) {
-        let mut moved = std::mem::take(self.and_mut(from));
-        let and = self.and_mut(to);
-        and.locals.append(&mut moved.locals);
-        and.store.append(&mut moved.store);
-        *self.and_mut(from) = moved;
     }
 
     /// Gives back a goal, with its and-box contents.

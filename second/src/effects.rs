@@ -167,7 +167,9 @@ fn constraint_atom(code: &Code, config: &mut Config, at: usize, goal: Goal) {
                 config.arguments(code, closure, list),
             )),
         };
-        config.and_mut(id).store.extend(constraint);
+        if let Some(constraint) = constraint {
+            config.add_constraint(id, constraint);
+        }
     }
     config.unlink(goal);
     config.free(goal);
@@ -207,7 +209,7 @@ fn hiding(code: &Code, config: &mut Config, goal: Goal) {
     if let Statement::Hiding(hidden, inner) = code.statement(closure.statement) {
         let fresh = config.fresh(hidden);
         let inner = config.opened(code, closure, hidden, inner);
-        config.and_mut(id).locals.extend(fresh);
+        config.add_locals(id, fresh);
         config.set(goal, Shape::Member(inner));
     }
 }
@@ -225,7 +227,7 @@ fn choice(code: &Code, config: &mut Config, at: usize, goal: Goal) {
             let guard = config.opened(code, closure, clause.hidden, clause.guard);
             let body = config.same_frame(guard, clause.body);
             let id = config.new_and();
-            config.and_mut(id).locals.extend(fresh);
+            config.add_locals(id, fresh);
             let guarded = config.new_goal(Shape::Guarded(body));
             let and = config.new_goal(Shape::And(id));
             let member = config.new_goal(Shape::Member(guard));
@@ -246,7 +248,7 @@ fn promotion(config: &mut Config, at: usize, goal: Goal) {
     let body = body(config, guarded);
     let outer = and_id(config, parent(config, goal));
     let inner = and_id(config, guard);
-    config.move_contents(inner, outer);
+    config.add_contents(inner, outer);
     config.free(guarded);
     config.free(guard);
     config.forget_children(goal);

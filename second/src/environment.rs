@@ -66,9 +66,10 @@ impl Environment {
         }
         // The last one kept may have got more constraints since.
         if let Some(last) = self.loaded.last_mut() {
-            let store = &config.and(way[kept - 1]).store;
+            let store = config.and(way[kept - 1]).store;
             if last.satisfiable && last.count < store.len() {
-                last.satisfiable = self.solver.tell(&store[last.count..], 0).satisfiable;
+                let more = config.constraints.newest(store, store.len() - last.count);
+                last.satisfiable = self.solver.tell(more, 0).satisfiable;
             }
             last.count = store.len();
             if !last.satisfiable {
@@ -78,7 +79,7 @@ impl Environment {
         for &id in &way[kept..] {
             let and = config.and(id);
             let mark = self.solver.mark();
-            let satisfiable = self.solver.tell(&and.store, 0).satisfiable;
+            let satisfiable = self.solver.tell(config.store_of(id), 0).satisfiable;
             self.loaded.push(Loaded {
                 stamp: and.stamp,
                 count: and.store.len(),
@@ -94,8 +95,7 @@ impl Environment {
 
     /// Tells the store of an and-box inside, at a level above 0 of this walk.
     pub fn enter(&mut self, config: &Config, id: AndId, level: u16) -> Told {
-        let and = config.and(id);
-        self.solver.own(&and.locals, level);
-        self.solver.tell(&and.store, level)
+        self.solver.own(config.locals_of(id), level);
+        self.solver.tell(config.store_of(id), level)
     }
 }

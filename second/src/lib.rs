@@ -5,8 +5,10 @@
 
 pub mod answers;
 pub mod bench;
+pub mod chain;
 pub mod checker;
 pub mod config;
+mod cycles;
 mod edit;
 mod effects;
 mod environment;
@@ -14,10 +16,10 @@ pub mod fuzz;
 mod lexer;
 pub mod limits;
 pub mod names;
-mod parser;
-pub mod reader;
 pub mod oracle;
+mod parser;
 pub mod random;
+pub mod reader;
 pub mod record;
 pub mod refusal;
 pub mod rules;

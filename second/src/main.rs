@@ -68,8 +68,12 @@ fn sheet(list: &Path) -> ExitCode {
 
 /// The steps that would be accepted after the steps text.
 fn allowed(folder: &Path) -> ExitCode {
-    let Ok((mut checker, ..)) = run(&Texts::of_folder(folder)) else {
-        return ExitCode::SUCCESS;
+    let mut checker = match run(&Texts::of_folder(folder)) {
+        Ok((checker, ..)) => checker,
+        Err(refusal) => {
+            eprintln!("refusal {}", refusal.number());
+            return ExitCode::FAILURE;
+        }
     };
     let mut out = String::new();
     for step in checker.allowed() {

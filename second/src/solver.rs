@@ -18,6 +18,7 @@
 //! the environment, with all variables of level 1 and up as V.
 
 use crate::config::{Constraint, Variable};
+use crate::cycles::Search;
 use crate::names::Name;
 
 /// What telling a store showed.
@@ -34,13 +35,14 @@ pub struct Told {
 /// A state of the solver to go back to.
 #[derive(Clone, Copy, Debug)]
 pub struct Mark {
+    version: u64,
     trail: usize,
     terms: usize,
     arguments: usize,
 }
 
 #[derive(Clone, Copy, Debug)]
-struct Cell {
+pub(crate) struct Cell {
     /// The next variable on the way to the one that stands for the class.
     up: Variable,
     rank: u8,
@@ -53,19 +55,19 @@ struct Cell {
     /// The level set by `own`, valid in the walk `owned_in`.
     own_level: u16,
     /// The class's term, counted from 1; 0 for none.
-    term: u32,
+    pub(crate) term: u32,
     /// The length of the trail when the first variable of the class was met.
-    oldest: u32,
+    pub(crate) oldest: u32,
     owned_in: u64,
     /// Last visit by the search for cycles.
-    seen: u64,
+    pub(crate) seen: u64,
 }
 
 #[derive(Clone, Copy, Debug)]
-struct Term {
+pub(crate) struct Term {
     label: Name,
-    start: u32,
-    length: u32,
+    pub(crate) start: u32,
+    pub(crate) length: u32,
 }
 
 #[derive(Clone, Copy, Debug)]
@@ -86,27 +88,34 @@ enum Change {
 #[derive(Clone, Debug, Default)]
 pub struct Solver {
     cells: Vec<Cell>,
-    terms: Vec<Term>,
-    arguments: Vec<Variable>,
+    pub(crate) terms: Vec<Term>,
+    pub(crate) arguments: Vec<Variable>,
     trail: Vec<Change>,
     walk: u64,
-    visit: u64,
+    /// A number for the present state, different from those of all others.
+    pub(crate) version: u64,
+    versions: u64,
+    pub(crate) search: Search,
     /// While telling: pairs still to be merged, classes where a cycle may close.
     pairs: Vec<(Variable, Variable)>,
-    touched: Vec<Variable>,
-    path: Vec<(Variable, u32, u32)>,
-    telling: Telling,
+    pub(crate) touched: Vec<Variable>,
+    pub(crate) telling: Telling,
 }
 
 #[derive(Clone, Copy, Debug, Default)]
-struct Telling {
+pub(crate) struct Telling {
     level: u16,
     /// The length of the trail when it began.
-    base: u32,
+    pub(crate) base: u32,
     loud: bool,
     loud_outside: bool,
-    /// A class from before got arguments, so cycles may run through old terms.
-    disturbed: bool,
+    /// How many classes from before got arguments. If any, cycles may run
+    /// through old terms.
+    pub(crate) disturbed: u32,
+    /// `Cell::oldest` of the last of these, which tells it from the others.
+    pub(crate) last_disturbed: u32,
+    /// Two classes from before became one.
+    pub(crate) joined: bool,
 }
 
 const UNMET: Cell = Cell {
@@ -136,7 +145,7 @@ impl Solver {
     }
 
     /// Says that variables are local to a box at a level of this walk.
-    pub fn own(&mut self, locals: &[Variable], level: u16) {
+    pub fn own<'a>(&mut self, locals: impl IntoIterator<Item = &'a Variable>, level: u16) {
         let walk = self.walk;
         for &local in locals {
             let cell = self.cell_mut(local);
@@ -148,6 +157,7 @@ impl Solver {
     /// The present state.
     pub fn mark(&self) -> Mark {
         Mark {
+            version: self.version,
             trail: self.trail.len(),
             terms: self.terms.len(),
             arguments: self.arguments.len(),
@@ -177,18 +187,25 @@ impl Solver {
         }
         self.terms.truncate(mark.terms);
         self.arguments.truncate(mark.arguments);
+        self.version = mark.version;
     }
 
     /// Adds a store at a level. If it has no solution with what was told before,
     /// the state is of use for `undo` only.
-    pub fn tell(&mut self, store: &[Constraint], level: u16) -> Told {
+    pub fn tell<'a>(
+        &mut self,
+        store: impl IntoIterator<Item = &'a Constraint>,
+        level: u16,
+    ) -> Told {
         self.telling = Telling {
             level,
             base: self.trail.len() as u32,
             ..Telling::default()
         };
         self.touched.clear();
-        let satisfiable = store.iter().all(|c| self.add(c)) && !self.cyclic();
+        let satisfiable = store.into_iter().all(|c| self.add(c)) && !self.cyclic();
+        self.versions += 1;
+        self.version = self.versions;
         Told {
             satisfiable,
             quiet: satisfiable && !self.telling.loud,
@@ -219,11 +236,11 @@ impl Solver {
         Some((term.label, &self.arguments[arguments]))
     }
 
-    fn cell(&self, variable: Variable) -> &Cell {
+    pub(crate) fn cell(&self, variable: Variable) -> &Cell {
         &self.cells[usize::from(variable.0)]
     }
 
-    fn cell_mut(&mut self, variable: Variable) -> &mut Cell {
+    pub(crate) fn cell_mut(&mut self, variable: Variable) -> &mut Cell {
         &mut self.cells[usize::from(variable.0)]
     }
 
@@ -239,6 +256,7 @@ impl Solver {
         cell.rank = 0;
         cell.met = true;
         cell.pointed = false;
+        cell.seen = 0;
         cell.level = if cell.owned_in == walk {
             cell.own_level
         } else {
@@ -310,7 +328,10 @@ impl Solver {
         let Cell { level, oldest, .. } = *self.cell(root);
         self.telling.loud |= level < self.telling.level;
         self.telling.loud_outside |= level == 0;
-        self.telling.disturbed |= oldest < self.telling.base && arguments > 0;
+        if oldest < self.telling.base && arguments > 0 {
+            self.telling.disturbed += 1;
+            self.telling.last_disturbed = oldest;
+        }
     }
 
     /// Merges the pairs that are due and those that follow; false on a clash.
@@ -329,7 +350,8 @@ impl Solver {
     /// Merges two classes.
     fn merge(&mut self, left: Variable, right: Variable) -> bool {
         let (a, b) = (*self.cell(left), *self.cell(right));
-        // A cycle closes on a way from one of the two to the other.
+        self.telling.joined |= a.oldest.max(b.oldest) < self.telling.base;
+        // A cycle closes on a way from the term to the variable.
         let closes = match (a.term, b.term) {
             (0, 0) => {
                 let higher = a.level.max(b.level);
@@ -355,9 +377,8 @@ impl Solver {
                     let other = self.arguments[(y.start + offset) as usize];
                     self.pairs.push((one, other));
                 }
-                let base = self.telling.base;
-                self.telling.disturbed |= a.oldest < base && b.oldest < base;
-                a.pointed || b.pointed
+                // If no variable gets a term by it they were one tree.
+                false
             }
         };
         let (root, child) = if a.rank < b.rank {
@@ -391,48 +412,5 @@ impl Solver {
             self.touched.push(root);
         }
         true
-    }
-
-    /// Whether some class now contains itself: finite trees do not. There was no
-    /// cycle before, so one runs through a class where a change may have closed
-    /// it. While no old class got new arguments old classes lead to old ones
-    /// only, and the search passes them by.
-    fn cyclic(&mut self) -> bool {
-        let open = self.visit + 1;
-        let closed = self.visit + 2;
-        self.visit += 2;
-        for index in 0..self.touched.len() {
-            let from = self.class(self.touched[index]);
-            if self.enter(from, open, closed) {
-                continue;
-            }
-            while let Some((class, next, end)) = self.path.pop() {
-                if next == end {
-                    self.cell_mut(class).seen = closed;
-                    continue;
-                }
-                self.path.push((class, next + 1, end));
-                let inner = self.class(self.arguments[next as usize]);
-                if self.cell(inner).seen == open {
-                    self.path.clear();
-                    return true;
-                }
-                self.enter(inner, open, closed);
-            }
-        }
-        false
-    }
-
-    /// Begins the visit of a class unless there is nothing to find in it.
-    fn enter(&mut self, class: Variable, open: u64, closed: u64) -> bool {
-        let cell = *self.cell(class);
-        let passed = !self.telling.disturbed && cell.oldest < self.telling.base;
-        if cell.term == 0 || cell.seen == closed || passed {
-            return true;
-        }
-        let term = self.terms[cell.term as usize - 1];
-        self.cell_mut(class).seen = open;
-        self.path.push((class, term.start, term.start + term.length));
-        false
     }
 }

@@ -100,9 +100,8 @@ impl Code {
             Statement::Composition(a, b) => 1 + self.parts(a) + self.parts(b),
             Statement::Hiding(hidden, inner) => 1 + u32::from(hidden) + self.parts(inner),
             Statement::Choice(_, clauses) => {
-                let each = |c: &Clause| {
-                    1 + u32::from(c.hidden) + self.parts(c.guard) + self.parts(c.body)
-                };
+                let each =
+                    |c: &Clause| 1 + u32::from(c.hidden) + self.parts(c.guard) + self.parts(c.body);
                 1 + self.clauses[clauses.range()].iter().map(each).sum::<u32>()
             }
         };

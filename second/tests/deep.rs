@@ -42,13 +42,22 @@ fn brackets_by_the_thousand() {
         assert_eq!(refusal("(".repeat(16_384), "true."), "refusal 2");
         assert_eq!(refusal(nested("(", 5_000, ")."), "true."), "refusal 2");
         assert_eq!(refusal(nested("(", 8_000, ")") + ".", "true."), "refusal 3");
-        assert_eq!(refusal(nested("(", 8_000, ")") + ".#", "true."), "refusal 2");
-        assert_eq!(refusal(nested("(X:", 3_000, ")") + ".", "true."), "refusal 3");
+        assert_eq!(
+            refusal(nested("(", 8_000, ")") + ".#", "true."),
+            "refusal 2"
+        );
+        assert_eq!(
+            refusal(nested("(X:", 3_000, ")") + ".", "true."),
+            "refusal 3"
+        );
         let guards = nested("(true?", 1_500, ")") + ".";
         assert_eq!(refusal(guards, "true."), "refusal 3");
         let bodies = format!("p := {}true{}.", "(".repeat(1_500), "?true)".repeat(1_500));
         assert_eq!(refusal(bodies, "true."), "refusal 3");
-        assert_eq!(refusal("p := true".to_string() + &",p".repeat(8_000) + ".", "p."), "refusal 0");
+        assert_eq!(
+            refusal("p := true".to_string() + &",p".repeat(8_000) + ".", "p."),
+            "refusal 0"
+        );
     });
 }
 
@@ -101,8 +110,9 @@ fn guards_nested_by_recursion() {
 fn terms_of_any_depth_and_size() {
     on_a_small_stack(|| {
         // X0 = f(X1), .. a thousand deep, then X0 joined with itself shifted.
-        let program = read_program(b"s(X) := (C : X = f(C), s(C)). t(X) := (C : X = g(C,C), t(C)).")
-            .expect("a program");
+        let program =
+            read_program(b"s(X) := (C : X = f(C), s(C)). t(X) := (C : X = g(C,C), t(C)).")
+                .expect("a program");
         for (query, letters) in [("s(X).", "s"), ("t(X), t(Y), X = Y.", "t")] {
             let query = read_query(&program, query.as_bytes()).expect("a query");
             let mut checker = Checker::start(query).expect("small");

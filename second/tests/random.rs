@@ -2,7 +2,7 @@
 
 use second::fuzz::campaign::{campaign, Counts};
 use second::fuzz::make;
-use second::oracle::ground;
+use second::oracle::{chains, ground};
 use second::random::Random;
 use second::record::record;
 
@@ -26,6 +26,11 @@ fn constraints_agree_with_trees() {
     let mut random = Random::new(7);
     for _ in 0..20_000 {
         if let Err(what) = ground::check(&mut random) {
+            panic!("{what}");
+        }
+    }
+    for _ in 0..4_000 {
+        if let Err(what) = chains::check(&mut random) {
             panic!("{what}");
         }
     }

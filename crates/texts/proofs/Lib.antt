@@ -3,3 +3,4 @@ pub mod TreesSpelled
 pub mod ReadFits
 pub mod QueryNames
 pub mod Reading
+pub mod ReadPrints

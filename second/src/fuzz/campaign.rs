@@ -3,7 +3,9 @@
 use super::{damage, gen, walk};
 use crate::checker::Checker;
 use crate::limits::Limits;
-use crate::oracle::{dump, ground, logic, meaning, record as slow_record, rewrite::Model, text::Stop};
+use crate::oracle::{
+    chains, dump, ground, logic, meaning, record as slow_record, rewrite::Model, text::Stop,
+};
 use crate::random::Random;
 use crate::reader::{read_program, read_query};
 use crate::record::{record, Texts};
@@ -21,6 +23,7 @@ pub struct Counts {
     pub refused: [u64; 19],
     pub records: u64,
     pub constraints: u64,
+    pub chains: u64,
     pub stable: u64,
     pub not_stable: u64,
     pub whole_lists: u64,
@@ -44,8 +47,8 @@ impl Counts {
             text += &format!(" {number}:{count}");
         }
         text += &format!(
-            "\nrecords compared {}\nconstraint cases tried on trees {}\n",
-            self.records, self.constraints
+            "\nrecords compared {}\nconstraint cases tried on trees {}, chains of terms compared {}\n",
+            self.records, self.constraints, self.chains
         );
         text += &format!(
             "stability compared {} (stable {})\nlists of allowed steps compared {}\n",
@@ -103,7 +106,10 @@ fn compare_records(texts: &Texts, counts: &mut Counts) -> Result<(), String> {
     };
     counts.records += 1;
     let fast = String::from_utf8_lossy(&record(texts)).into_owned();
-    let number = fast.lines().nth(1).and_then(|line| line.strip_prefix("refusal "));
+    let number = fast
+        .lines()
+        .nth(1)
+        .and_then(|line| line.strip_prefix("refusal "));
     let refused = number.and_then(|n| n.parse::<usize>().ok()).unwrap_or(0);
     if fast.lines().count() == 2 {
         counts.refused[refused] += 1;
@@ -135,6 +141,8 @@ impl Run<'_> {
         for _ in 0..3 {
             counts.constraints += 1;
             ground::check(random)?;
+            counts.chains += 1;
+            chains::check(random)?;
         }
         let (rules, query) = gen::texts(random);
         *texts = Texts {
@@ -231,9 +239,7 @@ impl Run<'_> {
     fn step(&mut self, step: Step, texts: &mut Texts) -> Result<bool, String> {
         self.counts.tried += 1;
         let fast = self.fast.step(step).map_err(Refusal::number);
-        let slow = self
-            .slow
-            .step(step.rule, step.place.0, step.argument.0);
+        let slow = self.slow.step(step.rule, step.place.0, step.argument.0);
         let line = walk::line(step);
         match (fast, slow) {
             (Ok(()), Ok(after)) => {
@@ -285,9 +291,10 @@ impl Run<'_> {
     fn compare_stability(&mut self) -> Result<(), String> {
         for (place, way) in self.slow.top.ways().iter().enumerate() {
             let goal = self.slow.top.at(way);
-            let held = goal.ways().iter().any(|w| {
-                matches!(goal.at(w), crate::oracle::model::Goal::And(..))
-            });
+            let held = goal
+                .ways()
+                .iter()
+                .any(|w| matches!(goal.at(w), crate::oracle::model::Goal::And(..)));
             if !held {
                 continue;
             }

@@ -37,8 +37,10 @@ pub fn texts(seed: u64) -> Texts {
             texts.steps.extend_from_slice(walk::line(last).as_bytes());
         }
     }
-    if kind < 3 {
-        damage::damage(&mut random, &mut texts);
+    match kind {
+        1 => damage::damage(&mut random, &mut texts),
+        2 => damage::misuse(&mut random, &mut texts),
+        _ => {}
     }
     texts
 }

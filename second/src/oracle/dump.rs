@@ -51,11 +51,13 @@ impl Fast<'_> {
             Shape::Or => self.text.push_str("or"),
             Shape::And(id) => {
                 self.text.push_str("and{");
-                for local in &config.and(id).locals {
+                let locals: Vec<_> = config.locals_of(id).collect();
+                for local in locals.iter().rev() {
                     let _ = write!(self.text, "{} ", local.0);
                 }
                 self.text.push('|');
-                for constraint in &config.and(id).store {
+                let store: Vec<_> = config.store_of(id).collect();
+                for constraint in store.iter().rev() {
                     self.constraint(constraint);
                 }
                 self.text.push('}');

@@ -59,7 +59,10 @@ fn enumerate(
     assignment: &mut Assignment,
     found: &mut dyn FnMut(&Assignment) -> bool,
 ) -> bool {
-    if constraints.iter().any(|c| holds(c, assignment) == Some(false)) {
+    if constraints
+        .iter()
+        .any(|c| holds(c, assignment) == Some(false))
+    {
         return true;
     }
     let Some((&first, rest)) = variables.split_first() else {
@@ -144,7 +147,7 @@ fn random_case(random: &mut Random) -> Case {
     }
 }
 
-fn to_fast(cons: &[Con], names: &mut Names) -> Vec<Constraint> {
+pub(crate) fn to_fast(cons: &[Con], names: &mut Names) -> Vec<Constraint> {
     let variable = |v: &u32| Variable(*v as u16);
     let each = |con: &Con| match con {
         Con::Fail => Constraint::Fail,
@@ -240,7 +243,10 @@ fn try_quiet(
     let built = described(solver, names, case.outer);
     assignment[..case.outer as usize].clone_from_slice(&built);
     let environment = &case.environment;
-    if environment.iter().any(|c| holds(c, &assignment) != Some(true)) {
+    if environment
+        .iter()
+        .any(|c| holds(c, &assignment) != Some(true))
+    {
         return Err("the assignment does not satisfy the environment");
     }
     if extension(&case.constraint, &assignment).is_some() {
@@ -254,7 +260,8 @@ fn try_quiet(
         &mut assignment,
         &mut |_| false,
     );
-    none.then_some(()).ok_or("the assignment extends by small trees")
+    none.then_some(())
+        .ok_or("the assignment extends by small trees")
 }
 
 /// Checks the verdicts on one random case; hands back what is wrong.

@@ -1,6 +1,7 @@
 //! Independent checks: a slow model of everything, written once more from the
 //! sentences of document 01, and trials of verdicts on trees.
 
+pub mod chains;
 pub mod dump;
 pub mod ground;
 pub mod logic;

@@ -29,7 +29,8 @@ impl Goal {
     }
 
     pub fn at(&self, way: &[usize]) -> &Goal {
-        way.iter().fold(self, |goal, &child| &goal.children()[child])
+        way.iter()
+            .fold(self, |goal, &child| &goal.children()[child])
     }
 
     pub fn at_mut(&mut self, way: &[usize]) -> &mut Goal {
@@ -142,10 +143,9 @@ pub fn put(statement: &Stmt, names: &[Rc<str>], vars: &[Var]) -> Stmt {
         Stmt::Same(x, y) => Stmt::Same(var(x), var(y)),
         Stmt::Built(x, label, xs) => Stmt::Built(var(x), label.clone(), list(xs)),
         Stmt::Call(name, xs) => Stmt::Call(name.clone(), list(xs)),
-        Stmt::Comp(a, b) => Stmt::Comp(
-            Box::new(put(a, names, vars)),
-            Box::new(put(b, names, vars)),
-        ),
+        Stmt::Comp(a, b) => {
+            Stmt::Comp(Box::new(put(a, names, vars)), Box::new(put(b, names, vars)))
+        }
         Stmt::Hide(hidden, inner) => {
             let (names, vars) = uncovered(hidden, names, vars);
             Stmt::Hide(hidden.clone(), Box::new(put(inner, &names, &vars)))

@@ -211,7 +211,10 @@ impl Model {
             }
             (3, Goal::Member(Stmt::Comp(a, b))) => {
                 let both = [Goal::Member(*a), Goal::Member(*b)];
-                self.top.at_mut(outer).list_mut().splice(index..=index, both);
+                self.top
+                    .at_mut(outer)
+                    .list_mut()
+                    .splice(index..=index, both);
             }
             (4, Goal::Member(Stmt::Hide(hidden, inner))) => {
                 let fresh = self.fresh(hidden.len());
@@ -268,11 +271,17 @@ impl Model {
                         Goal::Guarded(Box::new(first), body.clone()),
                         Goal::Guarded(Box::new(Goal::Or(parts)), body),
                     ];
-                    self.top.at_mut(outer).list_mut().splice(index..=index, both);
+                    self.top
+                        .at_mut(outer)
+                        .list_mut()
+                        .splice(index..=index, both);
                 }
             }
             (14, Goal::Or(parts)) => {
-                self.top.at_mut(outer).list_mut().splice(index..=index, parts);
+                self.top
+                    .at_mut(outer)
+                    .list_mut()
+                    .splice(index..=index, parts);
             }
             _ => unreachable!("the kind was checked"),
         }
@@ -298,7 +307,13 @@ impl Model {
     /// The text of each answer, or `long`.
     pub fn answers(&self, room: usize) -> Vec<String> {
         let text = |store: &Vec<Con>| text(store, &self.variables, room).expect("satisfiable");
-        let cut = |text: String| if text.len() > room { "long".into() } else { text };
+        let cut = |text: String| {
+            if text.len() > room {
+                "long".into()
+            } else {
+                text
+            }
+        };
         self.answer_stores().iter().map(text).map(cut).collect()
     }
 

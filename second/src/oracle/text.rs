@@ -365,7 +365,10 @@ pub fn program(text: &[u8]) -> Read<Vec<Def>> {
     refuse_if(defs.len() > 128 || reader.deepest > 32 || many, 3)?;
     let same = |a: &Def, b: &Def| a.name == b.name && a.parameters.len() == b.parameters.len();
     let twice = (1..defs.len()).any(|i| defs[..i].iter().any(|d| same(d, &defs[i])));
-    refuse_if(twice || any(&|d| doubled(&d.parameters) || doubles(&d.body)), 4)?;
+    refuse_if(
+        twice || any(&|d| doubled(&d.parameters) || doubles(&d.body)),
+        4,
+    )?;
     refuse_if(any(&|d| undefined(&d.body, &defs)), 5)?;
     let open = any(&|d| {
         let mut found = Vec::new();
