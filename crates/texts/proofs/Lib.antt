@@ -4,3 +4,5 @@ pub mod ReadFits
 pub mod QueryNames
 pub mod Reading
 pub mod ReadPrints
+pub mod PrintsRead
+pub mod OneReading
