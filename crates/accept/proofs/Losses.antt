@@ -14,7 +14,7 @@ use Rattle.akl.specs.StepsText.{Step}
 use Rattle.akl.specs.Configuration.{goal, guarded, Node, or, and, choice-box, guard, Nodes, nil, cons, one, Config}
 use Rattle.akl.specs.Step.{step}
 use Rattle.constraint.specs.Solve.{keep}
-use Rattle.akl.specs.Meaning.{Atoms, nothing, Any, Solution}
+use Rattle.theory.specs.Meaning.{Atoms, nothing, Any, Solution}
 use Rattle.akl.specs.Computed.{everything}
 
 a : Tree

@@ -14,7 +14,7 @@ use Rattle.akl.specs.Configuration.{Kind, goal, member, guarded, Node, or, and,
 use Rattle.akl.specs.Places.{Place, at}
 use Rattle.akl.specs.Stability.{locals}
 use Rattle.akl.specs.Step.{step}
-use Rattle.akl.specs.Meaning.{Atoms, nothing, HoldsWith, Solution}
+use Rattle.theory.specs.Meaning.{Atoms, nothing, HoldsWith, Solution}
 use Rattle.akl.specs.WellFormed.{program-passes, is-or}
 use Rattle.theory.specs.Scope.{Ok, Below, scope}
 use Rattle.theory.specs.Entails.{Entails}
@@ -99,8 +99,9 @@ module _ (limit : ℕ) (P : Program) (xs : List Name) (c : Config) (s : Step) (d
   passing : Pass P (h .before) × ((Pass P (h .before) → Pass P (h .after)) → Pass P (plug (h .context) (h .after)))
   passing = pass-context P (h .context) (h .before) (h .after) (subst (Pass P) (sym same) (f .statements))
 
-  more : c .next ≤ d .next
-  more = transition-more P (f .program) (c .next) (h .transition)
+  -- Numbers are never given back: the next fresh number does not fall.
+  pub step-numbers : c .next ≤ d .next
+  step-numbers = transition-more P (f .program) (c .next) (h .transition)
 
   keeps : Keeps (c .next) (d .next) (scope (h .context)) (h .before) (h .after)
   keeps = transition-keeps P (f .program) (c .next) (h .transition) (passing .0)
@@ -109,7 +110,7 @@ module _ (limit : ℕ) (P : Program) (xs : List Name) (c : Config) (s : Step) (d
   before-ok = subst (λ g. Ok g (c .next) []) (sym same) (f .scopes)
 
   after-ok : Ok (plug (h .context) (h .after)) (d .next) []
-  after-ok = keep-context (c .next) (d .next) more (h .context) (h .before) (h .after) keeps .ok before-ok (no-below (c .next))
+  after-ok = keep-context (c .next) (d .next) step-numbers (h .context) (h .before) (h .after) keeps .ok before-ok (no-below (c .next))
 
   higher : High q (locals (h .before)) → High q (locals (h .after))
   higher w x i = elim (keeps .old-or-fresh x i) [ inl j ↦ w x j | inr l ↦ omega (arith, f .above) ]
@@ -123,7 +124,7 @@ module _ (limit : ℕ) (P : Program) (xs : List Name) (c : Config) (s : Step) (d
     statements = subst (Pass P) (sym (h .result)) (passing .1 (transition-passes P (f .program) (c .next) (h .transition)));
     scopes = subst (λ g. Ok g (d .next) []) (sym (h .result)) after-ok;
     query = subst (λ g. QueryLocal g q) (sym (h .result)) (query-context (h .context) (h .before) (h .after) q (transition-query P (c .next) q (h .transition)) higher (subst (λ g. QueryLocal g q) (sym same) (f .query)));
-    above = omega (arith, f .above, more);
+    above = omega (arith, f .above, step-numbers);
     last = h .numbers-left;
     fit = h .fit;
   }

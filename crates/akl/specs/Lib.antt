@@ -16,6 +16,5 @@ pub mod Step
 pub mod Answers
 pub mod Record
 pub mod WellFormed
-pub mod Meaning
 pub mod Computed
 pub mod Rows

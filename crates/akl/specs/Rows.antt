@@ -1,5 +1,5 @@
 -- The table of rows: the cases marked P in document 01, the five "readings that fit the page and not the rule", one row
--- at least for every refusal, and rows that tell the definitions from near misses. One computed test shows all of them.
+-- at least for every refusal 2 to 7 and 10 to 18 (9 by what is well formed), and rows that tell the definitions from near misses. One computed test shows all of them.
 -- What a row expects is worked out by hand from document 01.
 use mathlib.Core.Path.{_≡_, refl}
 use mathlib.Core.List.{List, [], _∷_, _++_}
@@ -73,7 +73,7 @@ shows (answers p q s n m r) = eqb (answer-refusal (checked-run most-parts (bytes
 shows (formed limit c b) = agree b (well-formed limit [] (bytes "X" ∷ []) c)
 
 -- ---------------------------------------------------------------------------------------------
--- Constraints. Variables x, y, z, w; labels a, b, f.
+-- Constraints. Variables x, y, z; labels a, b, f.
 
 abbrev x : ℕ
 x = 0
@@ -83,9 +83,6 @@ y = 1
 
 abbrev z : ℕ
 z = 2
-
-abbrev w : ℕ
-w = 3
 
 infix 20 _is_
 abbrev _is_ : ℕ → String → Con ℕ
@@ -203,9 +200,6 @@ text-rows =
 -- ---------------------------------------------------------------------------------------------
 -- Runs.
 
-amend : String
-amend = "amend(K) := (K = kept ? true ; K = new ? true)."
-
 run-rows : List Row
 run-rows =
     -- P: the record
@@ -275,6 +269,12 @@ run-rows =
     -- A, B, C reads as A, (B, C)
     ∷ prints "" "X = a, Y = b, Z = c." "3 2 0\n1 2 0\n3 2 0\n1 2 0\n1 2 0\n" "accepted 5\nrefusal 0\nanswer X = a, Y = b, Z = c\nstate final\n"
     ∷ prints "" "X = a, Y = b, Z = c." "3 2 0\n1 2 0\n1 2 0\n" "accepted 2\nrefusal 12\nstate open\n"
+    -- a wrong operator in 7, 8 and 12
+    ∷ prints "" "(true ? true ; true ? true)." "5 2 0\n1 5 0\n7 3 0\n" "accepted 2\nrefusal 13\nstate open\n"
+    ∷ prints "" "(true -> true ; true -> true)." "5 2 0\n1 5 0\n8 3 0\n" "accepted 2\nrefusal 13\nstate open\n"
+    ∷ prints "" "(true | true ; true | true)." "5 2 0\n1 5 0\n1 7 0\n12 2 1\n" "accepted 3\nrefusal 13\nstate open\n"
+    -- flattening of an or-box that is a guard
+    ∷ prints "" "((true ? true ; true ? true) ? true)." "5 2 0\n5 5 0\n1 8 0\n1 10 0\n12 5 4\n14 4 0\n" "accepted 5\nrefusal 12\nstate open\n"
     -- 10 before 11 before 12 before 13
     ∷ prints "" "true." "15 9 9\n" "accepted 0\nrefusal 10\nstate open\n"
     ∷ prints "" "true." "0 2 0\n" "accepted 0\nrefusal 10\nstate open\n"
@@ -324,7 +324,7 @@ config-rows =
     -- 15: an or-box, an and-box, a local, a hiding and its variable, a composition and its two atoms are 8 parts
     ∷ starts 8 (bytes "(Y : Y = X, true).") 0
     ∷ starts 7 (bytes "(Y : Y = X, true).") 15
-    -- a choice, two clauses, a hidden variable, four atoms and three boxes' worth at the top: 10
+    -- a choice, two clauses, a hidden variable, four atoms and two boxes are 10 parts
     ∷ starts 10 (bytes "(Y : true ? true ; true ? true).") 0
     ∷ starts 9 (bytes "(Y : true ? true ; true ? true).") 15
     -- splitting copies locals and store too: or, 2 and, or-box inside, 2 stored, 2 locals, 2 choices, 2 guarded, 2 guards, 2 bodies

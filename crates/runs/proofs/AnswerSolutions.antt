@@ -14,8 +14,8 @@ use Rattle.constraint.proofs.Decision.{satisfiable-iff}
 use Rattle.akl.specs.Base.{if}
 use Rattle.akl.specs.Configuration.{Kind, goal, member, Node, or, and, stmt, choice-box, guard, Nodes, nil, cons}
 use Rattle.akl.specs.Answers.{Answer, solved-box, answers, answers-all, State, failed, final, open-state, is-answer, all-answers, state}
-use Rattle.akl.specs.Meaning.{Model, Holds, nothing, HoldsWith, All, Any, Allows}
-use Rattle.runs.specs.Calls.{AnswerIn, AllowedBy}
+use Rattle.theory.specs.Meaning.{Model, Holds, nothing, HoldsWith, All, Any, Allows}
+use Rattle.runs.specs.Calls.{AnswerIn, AllowedBy, Ended}
 
 -- lists of answers
 pub in-answers : (a : Answer) (x y : List Answer) → AnswerIn a (x ++ y) → AnswerIn a x ⊎ AnswerIn a y
@@ -72,12 +72,6 @@ module _ (Q : Model) (q : ℕ) (ρ : Asg) where
   all-complete nil t h = h
   all-complete (cons n ns) t (inl h) = allowed-append q (answers n) (answers-all ns) ρ .1 (inl (one-complete n (and-T (is-answer n) (all-answers ns) .0 t .0) h))
   all-complete (cons n ns) t (inr h) = allowed-append q (answers n) (answers-all ns) ρ .1 (inr (all-complete ns (and-T (is-answer n) (all-answers ns) .0 t .1) h))
-
--- the state of a configuration
-abbrev pub Ended : State → Type 0
-Ended failed = Unit {0}
-Ended final = Unit {0}
-Ended open-state = ⊥
 
 -- Failed or final: its answers allow exactly its solutions.
 pub ended-complete : (Q : Model) (q : ℕ) (ρ : Asg) (n : Node goal) → Ended (state n) → HoldsWith n Q q ρ nothing → AllowedBy q (answers n) ρ

@@ -15,33 +15,16 @@ use Rattle.akl.specs.Reader.{Query, read-program, read-query}
 use Rattle.akl.specs.Configuration.{goal, Node, Config}
 use Rattle.akl.specs.Record.{start}
 use Rattle.akl.specs.Answers.{Answer, answers, answer-text, numbered, answer, state}
-use Rattle.akl.specs.Meaning.{Solution, QuerySolution, Allows}
+use Rattle.theory.specs.Meaning.{Solution, QuerySolution, Allows}
 use Rattle.akl.specs.WellFormed.{program-passes, well-formed}
 use Rattle.theory.specs.Formed.{Formed, QueryFits}
 use Rattle.runs.specs.Calls.{Call, after-calls, calls-rules, NoPruning, AnswerIn, AllowedBy}
-use Rattle.runs.specs.Shown.{FitsText, shown-terms, line-bytes}
+use Rattle.runs.specs.Shown.{Fair}
+use Rattle.runs.specs.RunHolds.{RunHolds}
 use Rattle.theory.proofs.Reflect.{formed-iff}
 use Rattle.texts.proofs.Reading.{read-program-passes, read-query-fits}
-use Rattle.runs.proofs.AnswerSolutions.{Ended}
 use Rattle.runs.proofs.Runs.{run-formed, run-sound, run-answers-sound, run-exact, run-answers-exact}
-use Rattle.runs.proofs.SameText.{Fair, fair, text-shown, text-solutions, same-text-iff}
-
--- Everything about a run at once.
-pub record RunHolds (limit : ℕ) (P : Program) (query : Query) (c : Config) (ks : List Call) : Type 0 where
-  -- the configuration that the calls lead to is well formed
-  pub formed : T (well-formed limit P (query .variables) (after-calls limit P c ks))
-  -- no step added a solution
-  pub sound : (ρ : Asg) → Solution P (size (query .variables)) (after-calls limit P c ks) ρ → QuerySolution P query ρ
-  -- whatever an answer allows satisfies the query
-  pub answers-sound : (a : Answer) → AnswerIn a (answers (after-calls limit P c ks .root)) → (ρ : Asg) → Allows (size (query .variables)) a ρ → QuerySolution P query ρ
-  -- without 7 and 8 the configuration has exactly the query's solutions
-  pub exact : NoPruning (calls-rules limit P c ks) → (ρ : Asg) → Solution P (size (query .variables)) (after-calls limit P c ks) ρ ↔ QuerySolution P query ρ
-  -- and if failed or final its answers allow exactly these
-  pub answers-exact : NoPruning (calls-rules limit P c ks) → Ended (state (after-calls limit P c ks .root)) → (ρ : Asg) → AllowedBy (size (query .variables)) (answers (after-calls limit P c ks .root)) ρ ↔ QuerySolution P query ρ
-  -- the trees that fit an answer's text are exactly its solutions
-  pub texts-right : (a : Answer) → AnswerIn a (answers (after-calls limit P c ks .root)) → (answer-text (query .variables) a ≡ line-bytes (query .variables) (shown-terms (size (query .variables)) a)) × ((ρ : Asg) → FitsText (size (query .variables)) (shown-terms (size (query .variables)) a) ρ ↔ Allows (size (query .variables)) a ρ)
-  -- two answers have the same text exactly when they have the same solutions
-  pub texts-apart : (a b : Answer) → AnswerIn a (answers (after-calls limit P c ks .root)) → AnswerIn b (answers (after-calls limit P c ks .root)) → (answer-text (query .variables) a ≡ answer-text (query .variables) b) ↔ ((ρ : Asg) → Allows (size (query .variables)) a ρ ↔ Allows (size (query .variables)) b ρ)
+use Rattle.runs.proofs.SameText.{fair, text-shown, text-solutions, same-text-iff}
 
 pub demand-3 : (limit : ℕ) (rules text : List ℕ) (P : Program) (query : Query) (c : Config) → read-program rules ≡ ok P → read-query P text ≡ ok query → start limit query ≡ ok c → (ks : List Call) → RunHolds limit P query c ks
 demand-3 limit rules text P query c rp rq rs ks = record {
@@ -68,6 +51,16 @@ demand-3 limit rules text P query c rp rq rs ks = record {
 
     fair-of : (a : Answer) → AnswerIn a (answers (end .root)) → Fair a
     fair-of a i = fair P (end .next) (end .root) a (f .scopes) (f .statements) i
+
+-- "two answers of a query have the same text exactly when they have the same solutions": also those of two runs.
+pub texts-of-runs : (limit : ℕ) (rules text : List ℕ) (P : Program) (query : Query) (c : Config) → read-program rules ≡ ok P → read-query P text ≡ ok query → start limit query ≡ ok c → (ks ls : List Call) (a b : Answer) → AnswerIn a (answers (after-calls limit P c ks .root)) → AnswerIn b (answers (after-calls limit P c ls .root)) → (answer-text (query .variables) a ≡ answer-text (query .variables) b) ↔ ((ρ : Asg) → Allows (size (query .variables)) a ρ ↔ Allows (size (query .variables)) b ρ)
+texts-of-runs limit rules text P query c rp rq rs ks ls a b i j = same-text-iff (query .variables) a b (fair-of ks a i) (fair-of ls b j)
+  where
+    fair-of : (ms : List Call) (d : Answer) → AnswerIn d (answers (after-calls limit P c ms .root)) → Fair d
+    fair-of ms d k =
+        let end = after-calls limit P c ms in
+        let f = run-formed limit P (read-program-passes rules P rp) query (read-query-fits P text query rq) c rs ms in
+        fair P (end .next) (end .root) d (f .scopes) (f .statements) k
 
 -- ---------------------------------------------------------------------------------------------
 -- What the call for an answer hands back is the text of one of them, and fits the slice.

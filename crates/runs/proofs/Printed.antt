@@ -15,8 +15,8 @@ use Rattle.akl.specs.Token.{Class, small, capital, digit, underscore, blank, ma
 use Rattle.akl.specs.Answers.{Term, unbound, built, Terms, no-terms, more-terms}
 use Rattle.akl.specs.Limits.{name-bytes}
 use Rattle.akl.specs.WellFormed.{is-small, begins, spelled-name, spelled-digits}
-use Rattle.runs.specs.Shown.{term-bytes, arguments-bytes, rest-bytes, bindings-bytes, line-bytes}
-use Rattle.runs.proofs.SameTerms.{Spelled, SpelledTerm, SpelledTerms}
+use Rattle.runs.specs.Shown.{Spelled, term-bytes, arguments-bytes, rest-bytes, bindings-bytes, line-bytes}
+use Rattle.runs.proofs.SameTerms.{SpelledTerm, SpelledTerms}
 
 -- ---------------------------------------------------------------------------------------------
 -- Runs of letters, digits and underscores.

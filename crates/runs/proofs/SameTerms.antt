@@ -16,7 +16,7 @@ use Rattle.akl.specs.Base.{size, range, if}
 use Rattle.akl.specs.Answers.{Term, unbound, built, Terms, no-terms, more-terms, terms, unknowns, unknowns-all, position}
 use Rattle.akl.specs.Token.{class-of}
 use Rattle.akl.specs.WellFormed.{spelled-name, spelled-digits}
-use Rattle.runs.specs.Shown.{tree-of, forest-of, FitsText, numbered-term, numbered-terms}
+use Rattle.runs.specs.Shown.{Spelled, tree-of, forest-of, FitsText, numbered-term, numbered-terms}
 
 -- ---------------------------------------------------------------------------------------------
 -- Numbered by first appearance: read from the left, each unknown is one of the n met before, or is n itself.
@@ -100,9 +100,6 @@ mutual
 
 -- ---------------------------------------------------------------------------------------------
 -- Labels that a text may show.
-
-abbrev pub Spelled : Label → Type 0
-Spelled f = T (spelled-name f || spelled-digits f)
 
 abbrev mutual
   pub SpelledTerm : Term → Type 0

@@ -17,16 +17,16 @@ use Rattle.akl.specs.Base.{Name, bytes, bytes-from, size, all, range, if}
 use Rattle.akl.specs.Syntax.{Program}
 use Rattle.akl.specs.Configuration.{Kind, goal, member, Node, or, and, stmt, choice-box, guard, Nodes, nil, cons}
 use Rattle.akl.specs.Answers.{Answer, solved-box, answers, answers-all, Term, unbound, built, Terms, no-terms, more-terms, terms, term-of, value, unknowns-all, term-text, arguments-text, rest-text, bindings-text, line-text, solved-text, answer-text}
-use Rattle.akl.specs.Meaning.{Allows}
+use Rattle.theory.specs.Meaning.{Allows}
 use Rattle.akl.specs.WellFormed.{stored-fits, few, spelled-name, spelled-digits, statements-pass}
 use Rattle.theory.specs.Scope.{Sub, Ok, OkAll}
 use Rattle.runs.specs.Calls.{AnswerIn}
-use Rattle.runs.specs.Shown.{FitsText, numbered-term, numbered-terms, solved-terms, class-terms, shown-terms, term-bytes, arguments-bytes, rest-bytes, bindings-bytes, line-bytes}
+use Rattle.runs.specs.Shown.{Spelled, SpelledCon, SpelledStore, Fair, FitsText, numbered-term, numbered-terms, solved-terms, class-terms, shown-terms, term-bytes, arguments-bytes, rest-bytes, bindings-bytes, line-bytes}
 use Rattle.theory.proofs.Locals.{size-range}
 use Rattle.theory.proofs.InContext.{Pass, PassAll, pass-cons, pass-and}
 use Rattle.runs.proofs.AnswerSolutions.{in-answers, answer-satisfiable}
 use Rattle.runs.proofs.Shows.{shown-iff}
-use Rattle.runs.proofs.SameTerms.{Spelled, SpelledTerm, SpelledTerms, same-fit}
+use Rattle.runs.proofs.SameTerms.{SpelledTerm, SpelledTerms, same-fit}
 use Rattle.runs.proofs.Printed.{AsMany, line-inj}
 
 -- ---------------------------------------------------------------------------------------------
@@ -35,16 +35,6 @@ use Rattle.runs.proofs.Printed.{AsMany, line-inj}
 abbrev SpelledBounds : List Bound → Type 0
 SpelledBounds [] = Unit {0}
 SpelledBounds (b ∷ bs) = Spelled (b .1) × SpelledBounds bs
-
-abbrev SpelledCon : Con ℕ → Type 0
-SpelledCon ctrue = Unit {0}
-SpelledCon cfail = Unit {0}
-SpelledCon (ceq x y) = Unit {0}
-SpelledCon (capp x f ys) = Spelled f
-
-abbrev SpelledStore : Store → Type 0
-SpelledStore [] = Unit {0}
-SpelledStore (c ∷ p) = SpelledCon c × SpelledStore p
 
 abbrev SpelledBnd : Bnd → Type 0
 SpelledBnd free = Unit {0}
@@ -170,12 +160,6 @@ as-many : (xs : List Name) (f : ℕ → Term) (n : ℕ) (l : List ℕ) → AsMan
 unfolding size range terms numbered-term
 as-many [] f n l = tt
 as-many (x ∷ xs) f n l = as-many xs f (suc n) l
-
--- What is known of an answer of a well-formed configuration.
-pub record Fair (a : Answer) : Type 0 where
-  pub sat : Satisfiable (a .1)
-  pub own : Sub (varsAll (a .1)) (a .0)
-  pub labels : SpelledStore (a .1)
 
 -- its solved state
 solved-state : (a : Answer) → Fair a → (s : St) × (solve start (a .1) ≡ some s) × SpelledBounds (s .bs)

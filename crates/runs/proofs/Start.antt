@@ -16,7 +16,7 @@ use Rattle.akl.specs.Configuration.{Kind, goal, Node, or, and, stmt, Nodes, nil
 use Rattle.akl.specs.Limits.{last-number}
 use Rattle.akl.specs.Parts.{parts}
 use Rattle.akl.specs.Stability.{locals}
-use Rattle.akl.specs.Meaning.{Atoms, Holds, hidden-locals, nothing, HoldsWith, Solution, QuerySolution}
+use Rattle.theory.specs.Meaning.{Atoms, Holds, hidden-locals, nothing, HoldsWith, Solution, QuerySolution}
 use Rattle.akl.specs.WellFormed.{numbers, program-passes, names-pass, is-or, statements-pass}
 use Rattle.akl.specs.Record.{start}
 use Rattle.theory.specs.Scope.{Sub, Disjoint, Below, Ok, OkAll, Apart}

@@ -9,8 +9,8 @@ use Rattle.akl.specs.Syntax.{Program}
 use Rattle.akl.specs.StepsText.{Step, read-steps}
 use Rattle.akl.specs.Configuration.{Config}
 use Rattle.akl.specs.Step.{step, Run, steps}
-use Rattle.akl.specs.Answers.{Answer, answers}
-use Rattle.akl.specs.Meaning.{Allows}
+use Rattle.akl.specs.Answers.{Answer, State, failed, final, open-state}
+use Rattle.theory.specs.Meaning.{Allows}
 
 -- A call: a step, a steps text, or a question for the answer of a number in a slice of a length.
 pub data Call : Type 0 where
@@ -73,3 +73,9 @@ AnswerIn a (b ∷ bs) = (a ≡ b) ⊎ AnswerIn a bs
 abbrev pub AllowedBy : ℕ → List Answer → Asg → Type 0
 AllowedBy q [] ρ = ⊥
 AllowedBy q (a ∷ bs) ρ = Allows q a ρ ⊎ AllowedBy q bs ρ
+
+-- Failed or final.
+abbrev pub Ended : State → Type 0
+Ended failed = Unit {0}
+Ended final = Unit {0}
+Ended open-state = ⊥

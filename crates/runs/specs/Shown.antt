@@ -1,12 +1,16 @@
 -- What an answer's text shows: terms whose unknowns are numbered by first appearance, and the trees that fit them.
 use mathlib.Core.Path.{_≡_}
 use mathlib.Core.List.{List, [], _∷_, _++_}
+use mathlib.Core.Bool.{_||_}
 use mathlib.Core.Option.{Option, some, none}
 use Prim.Native.Nat.{ℕ, zero, suc}
-use Rattle.constraint.specs.Tree.{Tree, Forest, node, fnil, fcons}
-use Rattle.constraint.specs.Constraint.{Asg, trees}
+use lib.Dec.{T}
+use Rattle.constraint.specs.Tree.{Label, Tree, Forest, node, fnil, fcons}
+use Rattle.constraint.specs.Constraint.{Con, ctrue, cfail, ceq, capp, Store, Asg, trees, Satisfiable, varsAll}
 use Rattle.constraint.specs.Solve.{St, start, solve}
 use Rattle.akl.specs.Base.{Name, bytes, size, range, decimal}
+use Rattle.akl.specs.WellFormed.{spelled-name, spelled-digits}
+use Rattle.theory.specs.Scope.{Sub}
 use Rattle.akl.specs.Answers.{Answer, Term, unbound, built, Terms, no-terms, more-terms, terms, value, unknowns-all, position}
 
 -- The tree of a term, with τ for its unknowns.
@@ -68,3 +72,25 @@ bindings-bytes (x ∷ (y ∷ xs)) (more-terms t ts) = x ++ bytes " = " ++ term-b
 abbrev pub line-bytes : List Name → Terms → List ℕ
 line-bytes [] ts = bytes "true"
 line-bytes (x ∷ xs) ts = bindings-bytes (x ∷ xs) ts
+
+-- ---------------------------------------------------------------------------------------------
+-- What is known of an answer of a well-formed configuration: it has a solution, its store mentions its own locals alone,
+-- and its labels are spelled as names or digits.
+
+abbrev pub Spelled : Label → Type 0
+Spelled f = T (spelled-name f || spelled-digits f)
+
+abbrev pub SpelledCon : Con ℕ → Type 0
+SpelledCon ctrue = Unit {0}
+SpelledCon cfail = Unit {0}
+SpelledCon (ceq x y) = Unit {0}
+SpelledCon (capp x f ys) = Spelled f
+
+abbrev pub SpelledStore : Store → Type 0
+SpelledStore [] = Unit {0}
+SpelledStore (c ∷ p) = SpelledCon c × SpelledStore p
+
+pub record Fair (a : Answer) : Type 0 where
+  pub sat : Satisfiable (a .1)
+  pub own : Sub (varsAll (a .1)) (a .0)
+  pub labels : SpelledStore (a .1)

@@ -5,7 +5,8 @@ use mathlib.Core.List.{List, [], _∷_}
 use mathlib.Core.Option.{Option, some, none, Option·some-injective}
 use Prim.Native.Nat.{ℕ}
 use Rattle.akl.specs.Token.{Token, tokens}
-use Rattle.akl.specs.Grammar.{Statement, Definition, query-tokens, program-tokens}
+use Rattle.akl.specs.Grammar.{Statement, Definition}
+use Rattle.texts.specs.Printing.{query-tokens, program-tokens}
 use Rattle.akl.specs.Parse.{parse-query, parse-program}
 use Rattle.texts.specs.Spelled.{SpelledTokens}
 use Rattle.texts.specs.Writable.{Writable, WritableProgram}

@@ -12,7 +12,8 @@ use Rattle.constraint.proofs.Lists.{or-T}
 use Rattle.akl.specs.Base.{Name, bytes, bytes-from, size, same, when, if, _>>=_}
 use Rattle.akl.specs.Syntax.{Op, wait, cond, commit}
 use Rattle.akl.specs.Token.{class-of, digit-class, Token, name, digits, variable, sign, Mark, open-bracket, close-bracket, comma, full-stop, colon, defines, equals, semicolon, operator}
-use Rattle.akl.specs.Grammar.{Statement, single, joined, Simple, constraint, program, bracket, Bracket, plain, hiding, choosing, Clause, written, Others, end, and-also, Definition, vars-tokens, arguments-tokens, hidden-tokens, label-token, constraint-tokens, statement-tokens, simple-tokens, bracket-tokens, clause-tokens, others-tokens, query-tokens, definition-tokens, program-tokens}
+use Rattle.akl.specs.Grammar.{Statement, single, joined, Simple, constraint, program, bracket, Bracket, plain, hiding, choosing, Clause, written, Others, end, and-also, Definition}
+use Rattle.texts.specs.Printing.{vars-tokens, arguments-tokens, hidden-tokens, label-token, constraint-tokens, statement-tokens, simple-tokens, bracket-tokens, clause-tokens, others-tokens, query-tokens, definition-tokens, program-tokens}
 use Rattle.akl.specs.Parse.{Read, mark-number, after-token, after, an-operator-mark, an-operator, a-variable, a-name, a-label, variables, arguments, hidden, equation, named, unclaused, statement, simple, a-bracket, others, a-clause, nothing-left, parse-query, definition, definitions, parse-program, enough}
 use Rattle.texts.specs.Writable.{NotReserved, Writable, WritableSimple, WritableBracket, WritableClause, WritableOthers, WritableDefinition, WritableProgram}
 

@@ -13,7 +13,8 @@ use Rattle.akl.specs.Base.{Name, bytes, size, same, all, when, if, _>>=_}
 use Rattle.akl.specs.Limits.{name-bytes}
 use Rattle.akl.specs.Syntax.{Op, wait, cond, commit}
 use Rattle.akl.specs.Token.{Class, small, capital, digit, underscore, blank, mark, other, class-of, word-class, digit-class, Token, name, digits, variable, sign, Mark, open-bracket, close-bracket, comma, full-stop, colon, defines, equals, semicolon, operator}
-use Rattle.akl.specs.Grammar.{Statement, single, joined, Simple, constraint, program, bracket, Bracket, plain, hiding, choosing, Clause, written, Others, end, and-also, Definition, vars-tokens, arguments-tokens, hidden-tokens, label-token, constraint-tokens, statement-tokens, simple-tokens, bracket-tokens, clause-tokens, others-tokens, query-tokens, definition-tokens, program-tokens}
+use Rattle.akl.specs.Grammar.{Statement, single, joined, Simple, constraint, program, bracket, Bracket, plain, hiding, choosing, Clause, written, Others, end, and-also, Definition}
+use Rattle.texts.specs.Printing.{vars-tokens, arguments-tokens, hidden-tokens, label-token, constraint-tokens, statement-tokens, simple-tokens, bracket-tokens, clause-tokens, others-tokens, query-tokens, definition-tokens, program-tokens}
 use Rattle.akl.specs.Parse.{Read, mark-number, after-token, after, an-operator-mark, an-operator, a-variable, a-name, a-label, variables, arguments, hidden, equation, named, unclaused, statement, simple, a-bracket, others, a-clause, nothing-left, parse-query, definition, definitions, parse-program, enough}
 use Rattle.akl.specs.WellFormed.{is-small, begins, spelled-name, spelled-digits}
 use Rattle.texts.specs.Spelled.{SpelledToken, SpelledTokens}

@@ -13,7 +13,7 @@ use Rattle.constraint.proofs.Trees.{dec-in, sat-agree}
 use Rattle.constraint.proofs.Entail.{mix, mix-in, mix-out}
 use Rattle.akl.specs.Syntax.{Stmt}
 use Rattle.akl.specs.Configuration.{Kind, goal, Node, or, and, stmt, choice-box, guard, Nodes, nil, cons}
-use Rattle.akl.specs.Meaning.{Model, Holds, hidden-locals, nothing, HoldsWith, All, Any}
+use Rattle.theory.specs.Meaning.{Model, Holds, hidden-locals, nothing, HoldsWith, All, Any}
 use Rattle.akl.specs.WellFormed.{numbers}
 use Rattle.theory.specs.Scope.{Sub, Fits, Shared, SharedAll, Ok, OkAll}
 use Rattle.theory.proofs.Statements.{On, on-left, on-right, holds-on}

@@ -12,7 +12,7 @@ use Rattle.constraint.proofs.Lists.{and-T}
 use Rattle.akl.specs.Base.{all}
 use Rattle.akl.specs.Syntax.{Var, number, level}
 use Rattle.akl.specs.Rules.{number-of, stored}
-use Rattle.akl.specs.Meaning.{look}
+use Rattle.theory.specs.Meaning.{look}
 use Rattle.akl.specs.WellFormed.{variable-fits, constraint-fits, few, spelled-name, spelled-digits}
 
 -- any number may stand

@@ -8,7 +8,7 @@ use Rattle.constraint.proofs.Lists.{In-append}
 use Rattle.constraint.proofs.Entail.{sats-append}
 use Rattle.akl.specs.Syntax.{Op, Stmt}
 use Rattle.akl.specs.Configuration.{Kind, goal, member, guarded, Node, or, and, stmt, choice-box, guard, Nodes, nil, cons, _+n_, Ctx, top, in-or, in-and, in-choice, in-guard, plug, env}
-use Rattle.akl.specs.Meaning.{Model, Holds, hidden-locals, nothing, HoldsWith, All, Any}
+use Rattle.theory.specs.Meaning.{Model, Holds, hidden-locals, nothing, HoldsWith, All, Any}
 use Rattle.theory.specs.Scope.{Sub, Disjoint, Below, Fits, Shared, SharedAll, Ok, OkAll, scope}
 use Rattle.theory.specs.Entails.{Entails}
 use Rattle.theory.proofs.Statements.{On}

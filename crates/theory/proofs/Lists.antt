@@ -8,7 +8,7 @@ use Rattle.constraint.proofs.Lists.{In-append}
 use Rattle.akl.specs.Syntax.{Stmt}
 use Rattle.akl.specs.Configuration.{Kind, Node, Nodes, nil, cons, _+n_, one}
 use Rattle.akl.specs.Stability.{locals, locals-all}
-use Rattle.akl.specs.Meaning.{Model, Holds, nothing, HoldsWith, All, Any}
+use Rattle.theory.specs.Meaning.{Model, Holds, nothing, HoldsWith, All, Any}
 use Rattle.theory.specs.Scope.{Disjoint, Shared, SharedAll, Apart, Ok, OkAll}
 
 pub ok-append : {k : Kind} (a b : Nodes k) (N : ℕ) (xs : List ℕ) → OkAll (a +n b) N xs ↔ (OkAll a N xs × OkAll b N xs)

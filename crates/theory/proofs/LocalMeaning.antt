@@ -13,7 +13,7 @@ use Rattle.akl.specs.Base.{Name, size, range}
 use Rattle.akl.specs.Syntax.{Var, number, level, Op, Stmt, atom, call, hide, choice, Clauses, no-more, clause, Program, defined, opened}
 use Rattle.akl.specs.Configuration.{Kind, goal, member, guarded, Node, or, and, stmt, choice-box, guard, Nodes, nil, cons, _+n_, one}
 use Rattle.akl.specs.Rules.{fresh, guarded-goals, number-of}
-use Rattle.akl.specs.Meaning.{leaf, look, Model, Holds, Some, BodyHolds, Atoms, hidden-locals, nothing, HoldsWith, All, Any}
+use Rattle.theory.specs.Meaning.{leaf, look, Model, Holds, Some, BodyHolds, Atoms, hidden-locals, nothing, HoldsWith, All, Any}
 use Rattle.akl.specs.WellFormed.{numbers, clauses-numbers}
 use Rattle.theory.specs.Scope.{Sub, Disjoint, Below, Fits, Shared, Ok, OkAll}
 use Rattle.theory.specs.Entails.{Entails}

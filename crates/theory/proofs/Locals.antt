@@ -11,7 +11,7 @@ use Rattle.constraint.proofs.Lists.{In-append}
 use Rattle.constraint.proofs.Trees.{dec-in}
 use Rattle.constraint.proofs.Entail.{mix, mix-in, mix-out}
 use Rattle.akl.specs.Base.{size, range}
-use Rattle.akl.specs.Meaning.{hidden-locals}
+use Rattle.theory.specs.Meaning.{hidden-locals}
 use Rattle.theory.specs.Scope.{Disjoint, Below}
 use Rattle.theory.proofs.Agreement.{Agree, hidden-In}
 

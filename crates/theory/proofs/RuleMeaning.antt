@@ -9,7 +9,7 @@ use Rattle.constraint.proofs.Entail.{sats-append}
 use Rattle.akl.specs.Syntax.{Var, Op, wait, cond, commit, Stmt, atom, comp}
 use Rattle.akl.specs.Configuration.{Kind, goal, member, guarded, Node, or, and, stmt, choice-box, guard, Nodes, nil, cons, _+n_, one, failure}
 use Rattle.akl.specs.Rules.{stored}
-use Rattle.akl.specs.Meaning.{Model, Holds, nothing, HoldsWith, All, Any}
+use Rattle.theory.specs.Meaning.{Model, Holds, nothing, HoldsWith, All, Any}
 use Rattle.theory.specs.Entails.{Entails}
 use Rattle.theory.proofs.Lists.{all-append, any-append}
 use Rattle.theory.proofs.Context.{env-kept}

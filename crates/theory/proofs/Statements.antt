@@ -11,7 +11,7 @@ use Rattle.constraint.specs.Constraint.{Con, ctrue, cfail, ceq, capp, mapCon, A
 use Rattle.constraint.proofs.Lists.{In-append}
 use Rattle.akl.specs.Base.{Name, size}
 use Rattle.akl.specs.Syntax.{Var, number, level, Stmt, atom, call, comp, hide, choice, Clauses, no-more, clause, Program, defined, open-level, open-var, opened, opened-clauses}
-use Rattle.akl.specs.Meaning.{leaf, look, Model, Holds, Some, BodyHolds, Unfolded, Atoms}
+use Rattle.theory.specs.Meaning.{leaf, look, Model, Holds, Some, BodyHolds, Unfolded, Atoms}
 use Rattle.akl.specs.WellFormed.{variable-numbers, list-numbers, constraint-numbers, numbers, clauses-numbers}
 
 -- ---------------------------------------------------------------------------------------------

@@ -10,7 +10,7 @@ use Rattle.akl.specs.Base.{size}
 use Rattle.akl.specs.Syntax.{Op, wait, cond, commit, Stmt, atom, call, Program}
 use Rattle.akl.specs.Configuration.{Kind, goal, member, guarded, Node, or, and, stmt, choice-box, guard, Nodes, nil, cons, _+n_, one, failure, Ctx, env}
 use Rattle.akl.specs.Places.{Place}
-use Rattle.akl.specs.Meaning.{Atoms}
+use Rattle.theory.specs.Meaning.{Atoms}
 use Rattle.akl.specs.WellFormed.{program-passes, statements-pass}
 use Rattle.theory.specs.Scope.{scope}
 use Rattle.theory.specs.Entails.{Entails}

@@ -5,7 +5,7 @@ use Prim.Native.Nat.{ℕ}
 use Rattle.constraint.specs.Constraint.{Store, Asg, Sats, varsAll}
 use Rattle.akl.specs.Syntax.{Stmt}
 use Rattle.akl.specs.Configuration.{Kind, Node}
-use Rattle.akl.specs.Meaning.{Model, HoldsWith}
+use Rattle.theory.specs.Meaning.{Model, HoldsWith}
 use Rattle.theory.specs.Scope.{Sub, Below, Fits, Ok}
 
 abbrev pub Entails : Model → ℕ → ℕ → ℕ → List ℕ → Store → {k : Kind} → Node k → Node k → Type 0

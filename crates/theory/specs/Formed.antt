@@ -1,4 +1,5 @@
--- Well-formedness as propositions: document 01's sentence, part by part (akl: WellFormed has it as a test).
+-- Well-formedness, part by part (akl: WellFormed has it as one test): scopes, interference, the query's locals and the limits as
+-- propositions; what is said of spellings and statements stays a test.
 use mathlib.Core.List.{List, [], _∷_, _++_}
 use mathlib.Core.Bool.{true}
 use Prim.Native.Nat.{ℕ, suc, _≤_}

@@ -1,3 +1,4 @@
+pub mod Meaning
 pub mod Scope
 pub mod Entails
 pub mod Transition
