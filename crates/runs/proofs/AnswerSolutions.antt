@@ -14,8 +14,8 @@ use Rattle.constraint.proofs.Decision.{satisfiable-iff}
 use Rattle.akl.specs.Base.{if}
 use Rattle.akl.specs.Configuration.{Kind, goal, member, Node, or, and, stmt, choice-box, guard, Nodes, nil, cons}
 use Rattle.akl.specs.Answers.{Answer, solved-box, answers, answers-all, State, failed, final, open-state, is-answer, all-answers, state}
-use Rattle.theory.specs.Meaning.{Model, Holds, nothing, HoldsWith, All, Any, Allows}
-use Rattle.runs.specs.Calls.{AnswerIn, AllowedBy, Ended}
+use Rattle.theory.specs.Meaning.{Model, Holds, nothing, HoldsWith, All, Any}
+use Rattle.runs.specs.Calls.{AnswerIn, AllowedBy, Ended, Allows}
 
 -- lists of answers
 pub in-answers : (a : Answer) (x y : List Answer) → AnswerIn a (x ++ y) → AnswerIn a x ⊎ AnswerIn a y

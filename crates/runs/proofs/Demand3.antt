@@ -15,10 +15,10 @@ use Rattle.akl.specs.Reader.{Query, read-program, read-query}
 use Rattle.akl.specs.Configuration.{goal, Node, Config}
 use Rattle.akl.specs.Record.{start}
 use Rattle.akl.specs.Answers.{Answer, answers, answer-text, numbered, answer, state}
-use Rattle.theory.specs.Meaning.{Solution, QuerySolution, Allows}
+use Rattle.theory.specs.Meaning.{Solution, QuerySolution}
 use Rattle.akl.specs.WellFormed.{program-passes, well-formed}
 use Rattle.theory.specs.Formed.{Formed, QueryFits}
-use Rattle.runs.specs.Calls.{Call, after-calls, calls-rules, NoPruning, AnswerIn, AllowedBy}
+use Rattle.runs.specs.Calls.{Call, after-calls, calls-rules, NoPruning, AnswerIn, AllowedBy, Allows}
 use Rattle.runs.specs.Shown.{Fair}
 use Rattle.runs.specs.RunHolds.{RunHolds}
 use Rattle.theory.proofs.Reflect.{formed-iff}

@@ -15,10 +15,10 @@ use Rattle.akl.specs.Configuration.{Config}
 use Rattle.akl.specs.Step.{step, Run, steps}
 use Rattle.akl.specs.Record.{start}
 use Rattle.akl.specs.Answers.{Answer, answers, state}
-use Rattle.theory.specs.Meaning.{Atoms, Solution, QuerySolution, Allows}
+use Rattle.theory.specs.Meaning.{Atoms, Solution, QuerySolution}
 use Rattle.akl.specs.WellFormed.{program-passes}
 use Rattle.theory.specs.Formed.{Formed, QueryFits}
-use Rattle.runs.specs.Calls.{Call, one-step, steps-text, ask-answer, stepped, texted, after-call, step-rule, steps-rules, text-rules, call-rules, after-calls, calls-rules, NoPruning, AnswerIn, AllowedBy, Ended}
+use Rattle.runs.specs.Calls.{Call, one-step, steps-text, ask-answer, stepped, texted, after-call, step-rule, steps-rules, text-rules, call-rules, after-calls, calls-rules, NoPruning, AnswerIn, AllowedBy, Ended, Allows}
 use Rattle.accept.proofs.Accepted.{accepts-iff}
 use Rattle.accept.proofs.StepTheorem.{step-formed, step-gains-none, step-loses-none}
 use Rattle.runs.proofs.Start.{start-formed, start-solutions}

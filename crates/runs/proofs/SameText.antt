@@ -17,10 +17,9 @@ use Rattle.akl.specs.Base.{Name, bytes, bytes-from, size, all, range, if}
 use Rattle.akl.specs.Syntax.{Program}
 use Rattle.akl.specs.Configuration.{Kind, goal, member, Node, or, and, stmt, choice-box, guard, Nodes, nil, cons}
 use Rattle.akl.specs.Answers.{Answer, solved-box, answers, answers-all, Term, unbound, built, Terms, no-terms, more-terms, terms, term-of, value, unknowns-all, term-text, arguments-text, rest-text, bindings-text, line-text, solved-text, answer-text}
-use Rattle.theory.specs.Meaning.{Allows}
 use Rattle.akl.specs.WellFormed.{stored-fits, few, spelled-name, spelled-digits, statements-pass}
 use Rattle.theory.specs.Scope.{Sub, Ok, OkAll}
-use Rattle.runs.specs.Calls.{AnswerIn}
+use Rattle.runs.specs.Calls.{AnswerIn, Allows}
 use Rattle.runs.specs.Shown.{Spelled, SpelledCon, SpelledStore, Fair, FitsText, numbered-term, numbered-terms, solved-terms, class-terms, shown-terms, term-bytes, arguments-bytes, rest-bytes, bindings-bytes, line-bytes}
 use Rattle.theory.proofs.Locals.{size-range}
 use Rattle.theory.proofs.InContext.{Pass, PassAll, pass-cons, pass-and}

@@ -22,8 +22,9 @@ use Rattle.constraint.proofs.Cycle.{cycle-bound}
 use Rattle.constraint.proofs.Decision.{start-ok}
 use Rattle.akl.specs.Base.{size, range, if}
 use Rattle.akl.specs.Answers.{Answer, Term, unbound, built, Terms, no-terms, more-terms, terms, term-of, value, unknowns, unknowns-all, position}
-use Rattle.theory.specs.Meaning.{hidden-locals, Allows}
+use Rattle.theory.specs.Meaning.{hidden-locals}
 use Rattle.theory.specs.Scope.{Sub}
+use Rattle.runs.specs.Calls.{Allows}
 use Rattle.runs.specs.Shown.{tree-of, forest-of, FitsText, numbered-term, numbered-terms, solved-terms, class-terms, shown-terms}
 use Rattle.theory.proofs.Agreement.{sats-on, hidden-In}
 use Rattle.theory.proofs.Locals.{range-In, In-range}

@@ -3,14 +3,14 @@ use mathlib.Core.Path.{_≡_}
 use mathlib.Core.Logic.{_⊎_, inl, inr}
 use mathlib.Core.List.{List, [], _∷_, _++_}
 use Prim.Native.Nat.{ℕ, zero, suc}
-use Rattle.constraint.specs.Constraint.{Asg}
+use Rattle.constraint.specs.Constraint.{Asg, Off, Sats}
 use Rattle.akl.specs.Base.{Name, size, Result, refused, ok}
 use Rattle.akl.specs.Syntax.{Program}
 use Rattle.akl.specs.StepsText.{Step, read-steps}
 use Rattle.akl.specs.Configuration.{Config}
 use Rattle.akl.specs.Step.{step, Run, steps}
 use Rattle.akl.specs.Answers.{Answer, State, failed, final, open-state}
-use Rattle.theory.specs.Meaning.{Allows}
+use Rattle.theory.specs.Meaning.{hidden-locals}
 
 -- A call: a step, a steps text, or a question for the answer of a number in a slice of a length.
 pub data Call : Type 0 where
@@ -68,6 +68,10 @@ NoPruning (r ∷ rs) = ¬ (r ≡ 7) × ¬ (r ≡ 8) × NoPruning rs
 abbrev pub AnswerIn : Answer → List Answer → Type 0
 AnswerIn a [] = ⊥
 AnswerIn a (b ∷ bs) = (a ≡ b) ⊎ AnswerIn a bs
+
+-- What an answer allows: trees that satisfy its store with some trees for its locals but the query's.
+abbrev pub Allows : ℕ → Answer → Asg → Type 0
+Allows q a ρ = (ρ′ : Asg) × Off (hidden-locals q (a .0)) ρ ρ′ × Sats ρ′ (a .1)
 
 -- What some answer of the list allows.
 abbrev pub AllowedBy : ℕ → List Answer → Asg → Type 0

@@ -14,8 +14,8 @@ use Rattle.akl.specs.Reader.{Query}
 use Rattle.akl.specs.Configuration.{Config}
 use Rattle.akl.specs.Answers.{Answer, answers, answer-text, state}
 use Rattle.akl.specs.WellFormed.{well-formed}
-use Rattle.theory.specs.Meaning.{Solution, QuerySolution, Allows}
-use Rattle.runs.specs.Calls.{Call, after-calls, calls-rules, NoPruning, AnswerIn, AllowedBy, Ended}
+use Rattle.theory.specs.Meaning.{Solution, QuerySolution}
+use Rattle.runs.specs.Calls.{Call, after-calls, calls-rules, NoPruning, AnswerIn, AllowedBy, Ended, Allows}
 use Rattle.runs.specs.Shown.{FitsText, shown-terms, line-bytes}
 
 pub record RunHolds (limit : ℕ) (P : Program) (query : Query) (c : Config) (ks : List Call) : Type 0 where

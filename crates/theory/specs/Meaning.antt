@@ -1,4 +1,4 @@
--- Meaning: when a statement, a goal, a configuration holds; what a configuration's solutions are; what an answer allows.
+-- Meaning: when a statement, a goal, a configuration holds; what a configuration's solutions are.
 -- Document 01, from "A composition, hiding or clause holds when ..".
 use mathlib.Core.Path.{_≡_, refl}
 use mathlib.Core.Logic.{_↔_, _⊎_, inl, inr}
@@ -14,7 +14,6 @@ use Rattle.akl.specs.Base.{Name, size}
 use Rattle.akl.specs.Syntax.{Var, number, level, Stmt, atom, call, comp, hide, choice, Clauses, no-more, clause, Program, defined}
 use Rattle.akl.specs.Configuration.{Kind, goal, member, guarded, Node, or, and, stmt, choice-box, guard, Nodes, nil, cons, Config}
 use Rattle.akl.specs.Reader.{Query}
-use Rattle.akl.specs.Answers.{Answer, answers}
 
 -- ---------------------------------------------------------------------------------------------
 -- Statements.
@@ -99,7 +98,3 @@ Solution P q c ρ = HoldsWith (c .root) (Atoms P) q ρ nothing
 -- of a query
 abbrev pub QuerySolution : Program → Query → Asg → Type 0
 QuerySolution P q ρ = Holds (q .statement) (Atoms P) ρ []
-
--- What an answer allows: those that satisfy its store with some trees for its locals but the query's.
-abbrev pub Allows : ℕ → Answer → Asg → Type 0
-Allows q a ρ = (ρ′ : Asg) × Off (hidden-locals q (a .0)) ρ ρ′ × Sats ρ′ (a .1)
