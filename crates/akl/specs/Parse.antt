@@ -1,5 +1,6 @@
 -- The tree of a text's tokens, if there is one, by descent: statement, bracket and clause call each other.
--- The number n bounds the calls; every call but one in four passes a token, so 4 for each token are enough.
+-- The number n bounds the depth of calls; of any four calls, each in the one before, at least one passes a token, so that 4
+-- for each token are enough (crates/texts shows that no text of the grammar is lost).
 use mathlib.Core.List.{List, [], _∷_, _++_}
 use mathlib.Core.Bool.{Bool, true, false, _&&_, _||_, not}
 use mathlib.Core.Option.{Option, some, none}

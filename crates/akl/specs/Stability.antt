@@ -14,7 +14,7 @@ use Rattle.akl.specs.Places.{Place, at, places, place-number, holder-num
 use Rattle.akl.specs.Table.{Mode, determinate, nondeterminate, Rewrites, itself, holder, Row, table, rule-row, kind-at, same-kind}
 use Rattle.akl.specs.Rules.{Change, effect}
 
--- A rule at a place of its kind: its effect, if its condition holds.
+-- The place is of the kind that the row's rule takes.
 abbrev pub fits-row : Row → Place → Bool
 fits-row w p = same-kind (kind-at p) (w .takes)
 

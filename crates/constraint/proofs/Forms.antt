@@ -1,3 +1,4 @@
+-- Solved forms: a ranked one has exactly one solution for any trees of its free classes; a stuck one has none.
 use mathlib.Core.Path.{_≡_, refl, ap, sym, _∙_, subst}
 use mathlib.Core.Logic.{_↔_, _⊎_, inl, inr}
 use mathlib.Core.List.{List, [], _∷_, _++_}

@@ -1,3 +1,4 @@
+-- Telling a constraint keeps the assignments that satisfy state and constraints together, and ends within its bound.
 use mathlib.Core.Path.{_≡_, refl, ap, sym, _∙_}
 use mathlib.Core.Logic.{_↔_, _⊎_, inl, inr, Iff·trans, ite, if-pos, if-neg}
 use mathlib.Core.List.{List, [], _∷_, _++_}

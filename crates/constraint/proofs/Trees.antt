@@ -1,3 +1,4 @@
+-- Finite trees: labels and children of equal nodes, sizes of children; assignments that agree on a constraint's variables.
 use mathlib.Core.Path.{_≡_, refl, ap, sym, _∙_, subst}
 use mathlib.Core.Logic.{_↔_, _⊎_, inl, inr}
 use mathlib.Core.List.{List, [], _∷_, _++_}

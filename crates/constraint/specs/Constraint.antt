@@ -6,7 +6,7 @@ use Prim.Native.Nat.{ℕ}
 use Rattle.constraint.specs.Tree.{Label, Tree, Forest, node, fnil, fcons}
 
 -- "A constraint atom has one of four kinds: `true`, `fail`, variable = variable, variable = constructor."
--- X is the type of variables: numbers in a store; numbers and bound variables in a statement.
+-- X is the type of variables: numbers in a store; numbers and bound variables in a statement; names in a text.
 -- `capp x f ys` is x = f(ys), where ys is empty for a constructor that is a name alone.
 pub data Con (X : Type 0) : Type 0 where
   ctrue cfail : Con X

@@ -1,5 +1,5 @@
 -- Decisions that compute: is a store satisfiable, is it quiet. That they decide Satisfiable and Quiet is proved
--- in proofs/Decision.antt; nothing else need be known of how they go about it.
+-- in proofs/Decision.antt and proofs/Renamed.antt. The solved form St is used once more: an answer's text is read off it.
 --
 -- Variables that must be equal form a class with one representative; a class may be bound to one constructor term.
 -- Constraints are told one by one: two classes are merged, a class is bound, or two terms for one class are compared

@@ -9,7 +9,7 @@ use native.Mathlib.Decide.{ℕ-discrete}
 abbrev pub Label : Type 0
 Label = List ℕ
 
--- "Names are compared byte for byte": the one comparison of labels.
+-- "Names are compared byte for byte": the comparison of labels.
 unfoldable pub label-dec : (f g : Label) → Dec (f ≡ g)
 label-dec [] [] = yes refl
 label-dec [] (y ∷ g) = no (λ e. nil≢cons e)
@@ -25,7 +25,6 @@ mutual
   -- A tree: a label and the list of its children.
   pub data Tree : Type 0 where
     node : Label → Forest → Tree
-    deriving Discrete as Tree-discrete
 
   pub data Forest : Type 0 where
     fnil : Forest
