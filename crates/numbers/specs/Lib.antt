@@ -1,0 +1,4 @@
+pub mod Chunks
+pub mod Decides
+pub mod Stored
+pub mod Numbers

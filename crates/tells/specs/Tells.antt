@@ -1,0 +1,146 @@
+-- Telling constraints to the tables: what is asked, and what is handed back. Assumes nothing.
+use mathlib.Core.Path.{_≡_}
+use mathlib.Core.Logic.{_↔_, _⊎_}
+use mathlib.Core.List.{List, _++_}
+use Prim.Native.Nat.{ℕ, _+_, _-_, _%_, _≤_, _<_}
+use lib.ListN.{length, getD, drop}
+use Rattle.constraint.specs.Tree.{Label}
+use Rattle.constraint.specs.Constraint.{Asg, Store, Sats}
+use Rattle.constraint.proofs.FormSteps.{Holds}
+use Rattle.words.specs.declared.Word.{Word}
+use Rattle.words.specs.declared.Word.the-variants.{End, Free, Level, Num, Place, Inner, Bad}
+use Rattle.words.specs.declared.Sort.{Sort}
+use Rattle.words.specs.declared.Sort.the-variants.{Locals, Store as StoreSort, True, Fail, Eq, App, Call, Comp, Hide, Clause, AskWait, AskCond, AskCommit, NoSort}
+use Rattle.classes.specs.Means.{Fits, Apps, OldVars}
+use Rattle.unify.specs.Read.{tabOf, Distinct, told, starts}
+use Rattle.unify.specs.Steps.{Step, Sound, Filled}
+use Rattle.unify.specs.declared.Went.{Went}
+use Rattle.unify.specs.declared.Went.the-variants.{On, Clash, Full}
+use Rattle.tells.specs.declared.Told.{Told}
+use Rattle.tells.specs.declared.Told.the-variants.{All, Failed, NoRoom}
+
+-- what a word begins: 1 for fail, 2 for an equation, 3 for an application, 0 for nothing or true
+abbrev pub beginsSort : Sort → ℕ
+beginsSort Locals = 0
+beginsSort StoreSort = 0
+beginsSort True = 0
+beginsSort Fail = 1
+beginsSort Eq = 2
+beginsSort App = 3
+beginsSort Call = 0
+beginsSort Comp = 0
+beginsSort Hide = 0
+beginsSort Clause = 0
+beginsSort AskWait = 0
+beginsSort AskCond = 0
+beginsSort AskCommit = 0
+beginsSort NoSort = 0
+
+abbrev pub beginsOf : Word → ℕ
+beginsOf End = 0
+beginsOf (Free v) = 0
+beginsOf (Level v) = 0
+beginsOf (Num v) = 0
+beginsOf (Place k) = 0
+beginsOf (Inner s) = beginsSort s
+beginsOf Bad = 0
+
+-- x = y may be told
+pub record CanEquate (W : List Word) (P T X C : List ℕ) (n x y : ℕ) : Type 0 where
+  pub sound : Sound W T X C n
+  pub apps : Apps T (length P)
+  pub size : length P ≤ 65536
+  pub inx : x < length T
+  pub iny : y < length T
+
+-- x is the application k may be told
+pub record CanApply (W : List Word) (P T X C : List ℕ) (n x k : ℕ) : Type 0 where
+  pub sound : Sound W T X C n
+  pub apps : Apps T (length P)
+  pub size : length P ≤ 65536
+  pub inx : x < length T
+  pub app : k < length P
+
+-- one constraint was told: Q says of an assignment that it satisfies it, b is a bound for the applications that it brings
+pub record Took (W : List Word) (P T X C : List ℕ) (n b : ℕ) (Q : (ℕ → Label) → Asg → Type 0) (T′ X′ C′ : List ℕ) (n′ : ℕ) : Type 0 where
+  pub step : Step T X C n T′ X′ C′ n′
+  pub apps : (m : ℕ) → b ≤ m → Apps T m → Apps T′ m
+  pub means : (lab : ℕ → Label) (ρ : Asg) → (Fits (tabOf lab W P) T ρ × Q lab ρ) ↔ Fits (tabOf lab W P) T′ ρ
+
+abbrev pub Taking : List Word → List ℕ → List ℕ → List ℕ → List ℕ → ℕ → ℕ → ((ℕ → Label) → Asg → Type 0) → List ℕ → List ℕ → List ℕ → Went → Type 0
+Taking W P T X C n b Q T′ X′ C′ (On n′) = Took W P T X C n b Q T′ X′ C′ n′
+Taking W P T X C n b Q T′ X′ C′ (Clash n′) = Step T X C n T′ X′ C′ n′ × ((lab : ℕ → Label) → Distinct lab → (ρ : Asg) → Fits (tabOf lab W P) T ρ → Q lab ρ → ⊥)
+Taking W P T X C n b Q T′ X′ C′ (Full n′) = Step T X C n T′ X′ C′ n′ × Filled X C n′
+
+-- the tables between tells: n changes and a applications so far
+pub record State (W : List Word) (P T X C : List ℕ) (n a : ℕ) : Type 0 where
+  pub sound : Sound W T X C n
+  pub apps : Apps T a
+  pub fitP : a ≤ length P
+  pub size : length P ≤ 65536
+  pub vars : OldVars X 0 n (length T)
+  pub plain : (x : ℕ) → getD T x 0 % 4 ≡ 3 → ⊥
+
+-- the tables have the solutions of σ
+unfoldable pub Means : (ℕ → Label) → List Word → List ℕ → List ℕ → Store → Type 0
+Means lab W P T σ = (ρ : Asg) → Sats ρ σ ↔ Fits (tabOf lab W P) T ρ
+
+-- a range of the words
+pub record CanTell (W : List Word) (P T X C : List ℕ) (n a from to : ℕ) : Type 0 where
+  pub state : State W P T X C n a
+  pub le : from ≤ to
+  pub end : to ≤ length W
+
+-- what telling leaves, however it went: it can be taken back
+pub record Left (P T X C : List ℕ) (n a : ℕ) (P′ T′ X′ C′ : List ℕ) (n′ a′ : ℕ) : Type 0 where
+  pub step : Step T X C n T′ X′ C′ n′
+  pub more : a ≤ a′
+  pub sizeP : length P′ ≡ length P
+  pub oldP : (i : ℕ) → i < a → getD P′ i 0 ≡ getD P i 0
+
+-- the constraints S were told: the tables are as sound as before, and have the solutions of what was told before and S
+pub record Done (W : List Word) (P T X C : List ℕ) (n a : ℕ) (S : (ℕ → Label) → Store) (P′ T′ X′ C′ : List ℕ) (n′ a′ : ℕ) : Type 0 where
+  pub left : Left P T X C n a P′ T′ X′ C′ n′ a′
+  pub state : State W P′ T′ X′ C′ n′ a′
+  pub means : (lab : ℕ → Label) (σ : Store) → Means lab W P T σ → Means lab W P′ T′ (σ ++ S lab)
+
+-- there is a clash: what was told before and S have no solution
+pub record Clashed (W : List Word) (P T X C : List ℕ) (n a : ℕ) (S : (ℕ → Label) → Store) (P′ T′ X′ C′ : List ℕ) (n′ a′ : ℕ) : Type 0 where
+  pub left : Left P T X C n a P′ T′ X′ C′ n′ a′
+  pub none : (lab : ℕ → Label) → Distinct lab → (σ : Store) → Means lab W P T σ → (ρ : Asg) → Sats ρ (σ ++ S lab) → ⊥
+
+-- there was no room for a change or for an application
+pub record Stopped (P T X C : List ℕ) (n a : ℕ) (P′ T′ X′ C′ : List ℕ) (n′ a′ : ℕ) : Type 0 where
+  pub left : Left P T X C n a P′ T′ X′ C′ n′ a′
+  pub full : Filled X C n′ ⊎ (length P ≤ a′)
+
+abbrev pub Telling : List Word → List ℕ → List ℕ → List ℕ → List ℕ → ℕ → ℕ → ((ℕ → Label) → Store) → List ℕ → List ℕ → List ℕ → List ℕ → Told → Type 0
+Telling W P T X C n a S P′ T′ X′ C′ (All n′ a′) = Done W P T X C n a S P′ T′ X′ C′ n′ a′
+Telling W P T X C n a S P′ T′ X′ C′ (Failed n′ a′) = Clashed W P T X C n a S P′ T′ X′ C′ n′ a′
+Telling W P T X C n a S P′ T′ X′ C′ (NoRoom n′ a′) = Stopped P T X C n a P′ T′ X′ C′ n′ a′
+
+-- a word that is told
+pub record CanOne (W : List Word) (P T X C : List ℕ) (n a i : ℕ) : Type 0 where
+  pub state : State W P T X C n a
+  pub end : i < length W
+
+-- the constraint that the word at i begins
+abbrev pub oneAt : List Word → ℕ → (ℕ → Label) → Store
+oneAt W i lab = starts lab (getD W i Bad) (drop (i + 1) W)
+
+-- the constraints of a range of words
+abbrev pub rangeOf : List Word → ℕ → ℕ → (ℕ → Label) → Store
+rangeOf W from to lab = told lab (to - from) (drop from W)
+
+-- what may be taken back from a mark (n′, a′) to an earlier mark n
+pub record CanBack (T X C : List ℕ) (n′ n : ℕ) : Type 0 where
+  pub le : n ≤ n′
+  pub fitX : n′ ≤ length X
+  pub fitC : n′ ≤ length C
+  pub vars : OldVars X n n′ (length T)
+
+-- the tables are those of the earlier mark again: whatever was true of them is
+pub record Back (W : List Word) (P T X C : List ℕ) (n′ n : ℕ) (T″ : List ℕ) : Type 0 where
+  pub same : (P₀ T₀ X₀ C₀ : List ℕ) (a a′ : ℕ) → Left P₀ T₀ X₀ C₀ n a P T X C n′ a′ → T″ ≡ T₀
+  pub state : (P₀ T₀ X₀ C₀ : List ℕ) (a a′ : ℕ) → Left P₀ T₀ X₀ C₀ n a P T X C n′ a′ → State W P₀ T₀ X₀ C₀ n a → State W P T″ X C n a
+  pub means : (P₀ T₀ X₀ C₀ : List ℕ) (a a′ : ℕ) → Left P₀ T₀ X₀ C₀ n a P T X C n′ a′ → State W P₀ T₀ X₀ C₀ n a → (lab : ℕ → Label) (σ : Store) → Means lab W P₀ T₀ σ → Means lab W P T″ σ

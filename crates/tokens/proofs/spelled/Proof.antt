@@ -1,0 +1,17 @@
+-- `tokens::spelled` meets its contract: by the length. Assumes nothing.
+use borrow.Author.Tests.{le-leb, lt-leb}
+use borrow.Author.Needs.{needs}
+use Rattle.tokens.proofs.spelled.Statement.{statement}
+use Rattle.tokens.proofs.spelled.Tie as tie
+
+sub-len : tie.Need-sub-len
+sub-len c = search needs
+
+returns : tie.Need-returns
+returns c = simp (le-leb _ _ (c .if1 .taken))
+
+returns-2 : tie.Need-returns-2
+returns-2 c = simp (lt-leb _ _ (c .if1 .left))
+
+pub spelled-spec : {M : Type 1} → statement M
+spelled-spec = tie.close (tie.spec sub-len returns returns-2)

@@ -1,0 +1,6 @@
+pub mod Kinds
+pub mod Classes
+pub mod Runs
+pub mod Marks
+pub mod Next
+pub mod Tokens

@@ -1,0 +1,4 @@
+pub mod Trails
+pub mod Meeting
+pub mod Holding
+pub mod Settling

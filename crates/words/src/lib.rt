@@ -1,0 +1,213 @@
+// Words in lent bytes: three bytes each, a class and a two-byte value with the low byte first, read as an enum by value.
+ghost use mathlib.Core.Path.{_≡_};
+ghost use Prim.Native.Nat.{_<_};
+ghost use lib.ListN.{length};
+ghost use Rattle.numbers.specs.Stored.{Stored};
+ghost use Rattle.numbers.specs.Numbers.{Counted};
+ghost use Rattle.words.specs.Shapes.{kindOf, sortOf, kindNo, sortNo};
+ghost use Rattle.words.specs.Words.{words, word, classOf, valueOf, Read, CanWrite};
+
+// The shapes that are places of a configuration.
+pub enum Kind {
+    Or,
+    And,
+    Guarded,
+    Member,
+    Wait,
+    Cond,
+    Commit,
+    NoKind,
+}
+
+// The other shapes that open a bracket: locals, stores, constraints and statements.
+pub enum Sort {
+    Locals,
+    Store,
+    True,
+    Fail,
+    Eq,
+    App,
+    Call,
+    Comp,
+    Hide,
+    Clause,
+    AskWait,
+    AskCond,
+    AskCommit,
+    NoSort,
+}
+
+// A word closes a bracket, is a variable, a bound variable's level or a number, or opens a bracket. Bytes that are none of
+// these read as `Bad`.
+pub enum Word {
+    End,
+    Free(usize),
+    Level(usize),
+    Num(usize),
+    Place(Kind),
+    Inner(Sort),
+    Bad,
+}
+
+// The kind of a number.
+pub fn kind_of(v: usize) -> Kind
+    ensures { λ r. ⌜ r ≡ kindOf v ⌝ }
+{
+    match v {
+        0 => Kind::Or,
+        1 => Kind::And,
+        2 => Kind::Guarded,
+        3 => Kind::Member,
+        4 => Kind::Wait,
+        5 => Kind::Cond,
+        6 => Kind::Commit,
+        _ => Kind::NoKind,
+    }
+}
+
+// The sort of a number.
+pub fn sort_of(v: usize) -> Sort
+    ensures { λ r. ⌜ r ≡ sortOf v ⌝ }
+{
+    match v {
+        0 => Sort::Locals,
+        1 => Sort::Store,
+        2 => Sort::True,
+        3 => Sort::Fail,
+        4 => Sort::Eq,
+        5 => Sort::App,
+        6 => Sort::Call,
+        7 => Sort::Comp,
+        8 => Sort::Hide,
+        9 => Sort::Clause,
+        10 => Sort::AskWait,
+        11 => Sort::AskCond,
+        12 => Sort::AskCommit,
+        _ => Sort::NoSort,
+    }
+}
+
+// The number of a kind.
+pub fn kind_no(k: Kind) -> usize
+    ensures { λ r. ⌜ (r ≡ kindNo k) × (r < 8) ⌝ }
+{
+    match k {
+        Kind::Or => 0,
+        Kind::And => 1,
+        Kind::Guarded => 2,
+        Kind::Member => 3,
+        Kind::Wait => 4,
+        Kind::Cond => 5,
+        Kind::Commit => 6,
+        Kind::NoKind => 7,
+    }
+}
+
+// The number of a sort.
+pub fn sort_no(s: Sort) -> usize
+    ensures { λ r. ⌜ (r ≡ sortNo s) × (r < 16) ⌝ }
+{
+    match s {
+        Sort::Locals => 0,
+        Sort::Store => 1,
+        Sort::True => 2,
+        Sort::Fail => 3,
+        Sort::Eq => 4,
+        Sort::App => 5,
+        Sort::Call => 6,
+        Sort::Comp => 7,
+        Sort::Hide => 8,
+        Sort::Clause => 9,
+        Sort::AskWait => 10,
+        Sort::AskCond => 11,
+        Sort::AskCommit => 12,
+        Sort::NoSort => 13,
+    }
+}
+
+// The word of a class and a value.
+fn make(k: usize, v: usize) -> Word
+    ensures { λ r. ⌜ r ≡ word k v ⌝ }
+{
+    match k {
+        0 => Word::End,
+        1 => Word::Free(v),
+        2 => Word::Level(v),
+        3 => Word::Num(v),
+        4 => {
+            let p = kind_of(v);
+            Word::Place(p)
+        }
+        5 => {
+            let s = sort_of(v);
+            Word::Inner(s)
+        }
+        _ => Word::Bad,
+    }
+}
+
+// The class of a word.
+pub fn class_of(w: Word) -> usize
+    ensures { λ r. ⌜ (r ≡ classOf w) × (r < 256) ⌝ }
+{
+    match w {
+        Word::End => 0,
+        Word::Free(_) => 1,
+        Word::Level(_) => 2,
+        Word::Num(_) => 3,
+        Word::Place(_) => 4,
+        Word::Inner(_) => 5,
+        Word::Bad => 6,
+    }
+}
+
+// The value of a word.
+pub fn value_of(w: Word) -> usize
+    ensures { λ r. ⌜ r ≡ valueOf w ⌝ }
+{
+    match w {
+        Word::End => 0,
+        Word::Free(v) => v,
+        Word::Level(v) => v,
+        Word::Num(v) => v,
+        Word::Place(k) => kind_no(k),
+        Word::Inner(s) => sort_no(s),
+        Word::Bad => 0,
+    }
+}
+
+// How many whole words `b` holds.
+pub fn count(b: &[u8]) -> usize
+    ensures { λ r. ⌜ Counted (words (now (b .entry))) r ⌝ }
+{
+    b.len() / 3
+}
+
+// The word at `i`.
+pub fn get(b: &[u8], i: usize) -> Word
+    requires { ⌜ i < length (words (now b)) ⌝ }
+    ensures { λ r. ⌜ Read (words (now (b .entry))) i r ⌝ }
+{
+    let j = 3 * i;
+    let k = j + 1;
+    let l = k + 1;
+    let c = numbers::wide(b[j]);
+    let lo = numbers::wide(b[k]);
+    let hi = numbers::wide(b[l]);
+    make(c, lo + hi * 256)
+}
+
+// Writes `w` as the word at `i`.
+pub fn put(b: &mut [u8], i: usize, w: Word)
+    requires { ⌜ CanWrite (words (now b)) i w ⌝ }
+    ensures { λ _. ⌜ Stored (words (now (b .entry))) i w (words (now (b .exit))) ⌝ }
+{
+    let j = 3 * i;
+    let k = j + 1;
+    let l = k + 1;
+    let c = class_of(w);
+    let v = value_of(w);
+    b[j] = (c % 256) as u8;
+    b[k] = (v % 256) as u8;
+    b[l] = (v / 256 % 256) as u8;
+}
