@@ -23,7 +23,7 @@ pub mod reader;
 pub mod record;
 pub mod refusal;
 pub mod rules;
-mod solver;
+pub mod solver;
 mod stability;
 pub mod steps;
 pub mod syntax;
