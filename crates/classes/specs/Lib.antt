@@ -1,3 +1,4 @@
 pub mod Cells
 pub mod Trail
+pub mod Weights
 pub mod Means

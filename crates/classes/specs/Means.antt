@@ -1,17 +1,18 @@
 -- What a table of classes says of an assignment. What an application's number stands for is a parameter. Assumes nothing.
 use mathlib.Core.Path.{_≡_}
-use mathlib.Core.Logic.{_↔_, ite}
+use mathlib.Core.Logic.{_↔_, _⊎_, ite}
 use mathlib.Core.Bool.{Bool, true, false}
 use mathlib.Core.List.{List}
 use Prim.Native.Nat.{ℕ, _+_, _/_, _%_, _≤_, _<_}
 use native.Mathlib.Decide.{ℕ-discrete}
 use lib.ListN.{getD, length}
-use Rattle.constraint.specs.Constraint.{Asg}
+use Rattle.constraint.specs.Constraint.{Asg, In}
 use Rattle.constraint.specs.Solve.{Bnd, free}
 use Rattle.constraint.proofs.Form.{build}
 use Rattle.constraint.proofs.FormSteps.{Holds}
 use Rattle.classes.specs.Cells.{rep, par, key, Up}
 use Rattle.classes.specs.Trail.{Grown}
+use Rattle.classes.specs.Weights.{weights}
 
 -- what a cell is bound to
 unfoldable pub bound : (ℕ → Bnd) → ℕ → Bnd
@@ -37,6 +38,15 @@ OldApps C i n m = (t : ℕ) → i ≤ t → t < n → getD C t 0 % 4 ≡ 2 → g
 unfoldable pub OldVars : List ℕ → ℕ → ℕ → ℕ → Type 0
 OldVars X i n s = (t : ℕ) → i ≤ t → t < n → getD X t 0 < s
 
+-- every cell that is linked, bound or owned is that of one of vs, and so is every cell linked to
+pub record Within (vs T : List ℕ) : Type 0 where
+  pub cells : (x : ℕ) → (getD T x 0 % 4 ≡ 0) ⊎ In x vs
+  pub links : (x : ℕ) → getD T x 0 % 4 ≡ 1 → In (getD T x 0 / 256) vs
+
+-- the trail's entries from i on up to n are variables of vs
+unfoldable pub OldIn : List ℕ → ℕ → ℕ → List ℕ → Type 0
+OldIn X i n vs = (t : ℕ) → i ≤ t → t < n → In (getD X t 0) vs
+
 -- no cell becomes an owned one (kind 3)
 abbrev pub Plain : List ℕ → List ℕ → Type 0
 Plain T T′ = (x : ℕ) → getD T′ x 0 % 4 ≡ 3 → getD T x 0 % 4 ≡ 3
@@ -58,6 +68,8 @@ pub record Joined (T X C : List ℕ) (n x y : ℕ) (T′ X′ C′ : List ℕ) (
   pub apps : (m : ℕ) → Apps T m → Apps T′ m × OldApps C′ n n′ m
   pub vars : OldVars X′ n n′ (length T)
   pub plain : Plain T T′
+  pub cost : n′ + weights T ≤ n + weights T′
+  pub within : (vs : List ℕ) → In x vs → In y vs → Within vs T → Within vs T′ × OldIn X′ n n′ vs
 
 -- two representatives, the first of which may be linked below the second
 pub record CanHang (T X C : List ℕ) (n a b : ℕ) : Type 0 where

@@ -7,7 +7,7 @@ ghost use Rattle.judge.specs.Judge.{Bounded, Fit, Judgement, CanAgainst,
 use solver::Calm;
 use tells::Told;
 
-// The answer: the tables are unfit for the words, or the trail is too short; or quiet, or not.
+// The answer: the tables are unfit for the words, or too short for what is told; or quiet, or not.
 pub enum Judged {
     Unfit,
     NoSpace,
@@ -103,7 +103,7 @@ pub fn against(
     a: usize,
 ) -> Judged
     requires { ⌜ CanAgainst (words (now t)) from mid to (now locals) (longs (now pos)) (triples (now cells)) (shorts (now vars)) (triples (now olds)) (shorts (now marks)) (shorts (now stack)) (longs (now dones)) n a ⌝ }
-    ensures { λ r. ⌜ Against (words (now (t .entry))) mid to (now (locals .entry)) (longs (now (pos .entry))) (triples (now (cells .entry))) r ⌝ }
+    ensures { λ r. ⌜ Against (words (now (t .entry))) mid to (now (locals .entry)) (longs (now (pos .entry))) (triples (now (cells .entry))) (shorts (now (vars .entry))) (triples (now (olds .entry))) a r ⌝ }
 {
     if !cycles::acyclic(t, pos, cells, marks, stack, dones, a) {
         return Judged::Silent;
@@ -137,7 +137,7 @@ pub fn against(
 }
 
 // Whether the constraints in the words from `mid` on up to `to` are quiet, with the marked variables as locals, for those
-// from `from` on up to `mid`. Every other slice is working room.
+// from `from` on up to `mid`. Every other slice is working room; `Roomy` says how much of it is always enough.
 pub fn judge(
     t: &[u8],
     from: usize,
@@ -152,7 +152,7 @@ pub fn judge(
     stack: &mut [u8],
     dones: &mut [u8],
 ) -> Judged
-    ensures { λ r. ⌜ Judgement (words (now (t .entry))) from mid to (now (locals .entry)) (longs (now (pos .entry))) (triples (now (cells .entry))) (shorts (now (marks .entry))) (shorts (now (stack .entry))) (longs (now (dones .entry))) r ⌝ }
+    ensures { λ r. ⌜ Judgement (words (now (t .entry))) from mid to (now (locals .entry)) (longs (now (pos .entry))) (triples (now (cells .entry))) (shorts (now (vars .entry))) (triples (now (olds .entry))) (shorts (now (marks .entry))) (shorts (now (stack .entry))) (longs (now (dones .entry))) r ⌝ }
 {
     if !fit(t, from, mid, to, locals, pos, cells, marks, stack, dones) {
         return Judged::Unfit;

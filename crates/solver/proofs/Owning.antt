@@ -7,14 +7,16 @@ use native.Mathlib.Omega.{arith}
 use native.Mathlib.Decide.{ℕ-discrete}
 use lib.ListN.{length, getD}
 use Rattle.numbers.specs.Stored.{Stored, stored-same, stored-other}
+use Rattle.constraint.specs.Constraint.{In}
 use Rattle.classes.specs.Cells.{next, par, rep, Up, Found}
 use Rattle.classes.specs.Trail.{Grown, grown-none, grown-then, grown-saved, grows-owned, Saved, CanSave}
 use Rattle.classes.specs.Means.{OldVars}
+use Rattle.classes.specs.Weights.{weights-stored, weight-open, weight-taken}
 use Rattle.classes.proofs.Climb.{next-root, rep-same, root-rep, rep-root}
 use Rattle.classes.proofs.Tables.{cell-cases, up-root}
-use Rattle.classes.proofs.Linking.{root-cell, one-vars}
+use Rattle.classes.proofs.Linking.{root-cell, one-vars, rep-in, within-saved}
 use Rattle.unify.specs.Steps.{Filled}
-use Rattle.unify.proofs.Trails.{vars-none, vars-split, vars-of, filled-then}
+use Rattle.unify.proofs.Trails.{vars-none, vars-split, vars-of, in-of, filled-then}
 use Rattle.solver.specs.Owners.{Cand, Outer, Alone, Owning, Loud, Marks, CanOwn, CanLookAll, CanLookOne, Looking}
 use Rattle.solver.specs.declared.Owned.{Owned}
 use Rattle.solver.specs.declared.Owned.the-variants.{Apart, Joint, NoPlace}
@@ -26,6 +28,8 @@ owning-first L T X C from n h = record {
   vars = vars-none X n (length T);
   fitX = h .fitX;
   fitC = h .fitC;
+  cost = omega arith;
+  within = λ vs u v. v;
   pars = λ x. refl;
   kept = λ x. inr refl;
   unbound = λ x e. absurd (h .plain x e);
@@ -35,7 +39,7 @@ owning-first L T X C from n h = record {
 }
 
 pub marks-of : {L T X C : List ℕ} {from n : ℕ} {O X′ C′ : List ℕ} {i m : ℕ} → Owning L T X C from n O X′ C′ i m → Marks T X C n O X′ C′ m
-marks-of w = record { grown = w .grown; vars = w .vars; fitX = w .fitX; fitC = w .fitC }
+marks-of w = record { grown = w .grown; vars = w .vars; fitX = w .fitX; fitC = w .fitC; cost = w .cost; within = w .within }
 
 pub four : (c : ℕ) → (c % 4 ≡ 0) ⊎ ((c % 4 ≡ 1) ⊎ ((c % 4 ≡ 2) ⊎ (c % 4 ≡ 3)))
 four c = go (ℕ-discrete (c % 4) 0) (ℕ-discrete (c % 4) 1) (ℕ-discrete (c % 4) 2)
@@ -75,7 +79,7 @@ module _ (L T X C : List ℕ) (from n : ℕ) (O X′ C′ : List ℕ) (i m x c :
       go (no q) = w .done s l (omega arith) e o
 
   pub passed : (c % 4 ≡ 0 → Outer L x → Alone T O x) → Owning L T X C from n O X′ C′ (i + 1) m
-  passed a = record { grown = w .grown; up = w .up; vars = w .vars; fitX = w .fitX; fitC = w .fitC; pars = w .pars; kept = w .kept; unbound = w .unbound; local = w .local; owner = w .owner; done = done-more a }
+  passed a = record { grown = w .grown; up = w .up; vars = w .vars; fitX = w .fitX; fitC = w .fitC; cost = w .cost; within = w .within; pars = w .pars; kept = w .kept; unbound = w .unbound; local = w .local; owner = w .owner; done = done-more a }
 
   pub passed-closed : (c % 4 ≡ 0 → ⊥) → Owning L T X C from n O X′ C′ (i + 1) m
   passed-closed k = passed (λ e. absurd (k e))
@@ -175,6 +179,8 @@ module _ (L T X C : List ℕ) (from n : ℕ) (O X′ C′ : List ℕ) (i m x c :
         vars = vars-split X′ C′ X″ C″ n m (m + 1) (λ j l. stored-other j 0 (s .vars) (λ e. omega arith)) (λ j l. stored-other j 0 (s .olds) (λ e. omega arith)) (length T) (w .vars) (subst (OldVars X″ m (m + 1)) (w .grown .sizeT) (one-vars can s));
         fitX = omega (arith, can .roomX, w .grown .sizeX);
         fitC = omega (arith, can .roomC, w .grown .sizeC);
+        cost = omega (arith, w .cost, weights-stored (s .cells) (can .inside), weight-open (getD O r 0) d0, weight-taken d′ (λ e. omega arith) (λ e. omega arith));
+        within = λ vs u v. within-saved can s vs (subst (λ (z : ℕ). In z vs) er (rep-in vs T v x (subst (λ (z : ℕ). In z vs) ex₀ (in-of X 0 n vs u i (omega arith) (h .end))))) (λ e. absurd (omega arith)) (w .within vs u v);
         pars = cell-cases (λ (y b : ℕ). next b y ≡ par T y) (s .cells) (can .inside) (next-root d′ r (λ e. omega arith) ∙ sym rootT) (λ y n. w .pars y);
         kept = cell-cases (λ (y b : ℕ). (b % 4 ≡ 3) ⊎ (b ≡ getD T y 0)) (s .cells) (can .inside) (inl t) (λ y n. w .kept y);
         unbound = cell-cases (λ (y b : ℕ). b % 4 ≡ 3 → getD T y 0 % 4 ≡ 0) (s .cells) (can .inside) (λ e. open-root k2) (λ y n e. w .unbound y e);

@@ -23,7 +23,9 @@ use Rattle.tells.specs.Tells.{State, Means, Left}
 use Rattle.cycles.specs.Search.{Acyclic, Cyclic}
 use Rattle.solver.specs.Owners.{Cand, Outer, Alone, Owning, Loud, Marks, Looking}
 use Rattle.solver.specs.Solver.{Marking, Before, Calmed, Kept}
-use Rattle.unify.proofs.Trails.{vars-of}
+use Rattle.unify.specs.Reach.{varsOf}
+use Rattle.unify.specs.Steps.{Filled}
+use Rattle.unify.proofs.Trails.{vars-of, filled-short}
 use Rattle.solver.specs.declared.Calm.the-variants.{Silent, Loudly, NoSpace}
 use Rattle.solver.specs.declared.Owned.{Owned}
 use Rattle.solver.specs.declared.Owned.the-variants.{Apart, Joint, NoPlace}
@@ -82,7 +84,7 @@ module _ (W : List Word) (L P T X C : List ℕ) (n a n₀ : ℕ) (P₀ T₀ X₀
       go (inl e) = e
       go (inr (inl e)) = absurd (root-cell T₀ U₀ x root e)
       go (inr (inr (inl e))) = absurd (cell-bound lab W P₀ (getD T₀ x 0) unb e)
-      go (inr (inr (inr e))) = absurd (B .state .plain x e)
+      go (inr (inr (inr e))) = absurd (B .state .sound .plain x e)
 
   -- what was unbound and is no local is a parameter
   par-open : (x : ℕ) → getD T₀ x 0 % 4 ≡ 0 → Outer L x → Par E vs x
@@ -158,8 +160,8 @@ calmed-joint W L P T X C n a n₀ U l = record { right = λ P₀ T₀ X₀ C₀ 
 pub calmed-apart : (W : List Word) (L P T X C : List ℕ) (n a n₀ : ℕ) → Up T → Acyclic W P T → (O X′ C′ : List ℕ) (k : ℕ) → Owning L T X C n₀ n O X′ C′ n k → Calmed W L P T X C n a n₀ Silent
 calmed-apart W L P T X C n a n₀ U A O X′ C′ k w = record { right = λ P₀ T₀ X₀ C₀ a₀ lab vs env σ B mk m. silent W L P T X C n a n₀ P₀ T₀ X₀ C₀ a₀ lab vs env σ U B mk m A O X′ C′ k w }
 
-pub calmed-none : (W : List Word) (L P T X C : List ℕ) (n a n₀ : ℕ) → Calmed W L P T X C n a n₀ NoSpace
-calmed-none W L P T X C n a n₀ = record { right = λ P₀ T₀ X₀ C₀ a₀ lab vs env σ B mk m. tt }
+pub calmed-none : (W : List Word) (L P T X C : List ℕ) (n a n₀ : ℕ) (O X′ C′ : List ℕ) (k : ℕ) → State W P T X C n a → Marks T X C n O X′ C′ k → Filled X C k → Calmed W L P T X C n a n₀ NoSpace
+calmed-none W L P T X C n a n₀ O X′ C′ k s w f = filled-short W T O X C k (w .grown .sizeT) (w .within (varsOf W) (s .used) (s .sound .within)) (omega (arith, s .cost, w .cost)) f
 
 -- owners are taken back
 pub kept-none : (T X C : List ℕ) (n : ℕ) → Kept T X C n T X C
@@ -183,3 +185,6 @@ module _ (L T X C : List ℕ) (from n : ℕ) (O X′ C′ : List ℕ) (i k : ℕ
 
   pub marks-full : o ≡ NoPlace k → Marks T X C n O X′ C′ k
   marks-full e = (subst (Looking L T X C from n O X′ C′ i) e w) .0
+
+  pub full-place : o ≡ NoPlace k → Filled X C k
+  full-place e = (subst (Looking L T X C from n O X′ C′ i) e w) .1

@@ -14,7 +14,7 @@ use Rattle.constraint.proofs.Form.{Form, at, Solves, Below, Ranked, Of, build}
 use Rattle.constraint.proofs.Forms.{solution, solution-solves}
 use Rattle.words.specs.declared.Word.{Word}
 use Rattle.classes.specs.Cells.{rep, par, Up}
-use Rattle.classes.specs.Means.{bound, Fits, Apps, OldVars}
+use Rattle.classes.specs.Means.{bound, Fits, Apps, OldVars, OldIn}
 use Rattle.classes.proofs.Climb.{rep-root, next-root}
 use Rattle.classes.proofs.Tables.{formOf, fits-form, bound-yes, bound-no}
 use Rattle.unify.specs.Read.{argsAt, labelAt, termAt, tabOf, Vars}
@@ -54,8 +54,8 @@ module _ (W : List Word) (P T X C : List ℕ) (zeros : (x : ℕ) → getD T x 0 
   start-up l = record { fall = λ x e. absurd (omega (arith, zeros x)); inside = λ x e. absurd (omega (arith, zeros x)); size = l }
 
   pub start-state : length T ≤ 65536 → length P ≤ 65536 → length W < 4294967296 → Vars W (length T) → State W P T X C 0 0
-  unfolding Apps OldVars
-  start-state lt lp lw v = record { sound = record { up = start-up lt; vars = v; long = lw; fitX = omega arith; fitC = omega arith }; apps = λ x e. absurd (omega (arith, zeros x)); fitP = omega arith; size = lp; vars = λ t a b. absurd (omega arith); plain = λ x e. omega (arith, zeros x) }
+  unfolding Apps OldVars OldIn
+  start-state lt lp lw v = record { sound = record { up = start-up lt; vars = v; long = lw; fitX = omega arith; fitC = omega arith; plain = λ x e. omega (arith, zeros x); within = record { cells = λ x. inl (omega (arith, zeros x)); links = λ x e. absurd (omega (arith, zeros x)) } }; apps = λ x e. absurd (omega (arith, zeros x)); fitP = omega arith; size = lp; vars = λ t a b. absurd (omega arith); used = λ t a b. absurd (omega arith); cost = omega arith }
 
   pub start-means : (lab : ℕ → Label) → Means lab W P T []
   unfolding Means Fits

@@ -7,7 +7,8 @@ use Prim.Native.Nat.{ℕ, _+_, _/_, _%_, _≤_, _<_}
 use lib.ListN.{length, getD}
 use Rattle.classes.specs.Cells.{par, rep, Up}
 use Rattle.classes.specs.Trail.{Grown}
-use Rattle.classes.specs.Means.{OldVars}
+use Rattle.classes.specs.Means.{OldVars, OldIn, Within}
+use Rattle.classes.specs.Weights.{weights}
 use Rattle.unify.specs.Steps.{Filled}
 use Rattle.solver.specs.declared.Owned.{Owned}
 use Rattle.solver.specs.declared.Owned.the-variants.{Apart, Joint, NoPlace}
@@ -31,6 +32,8 @@ pub record Owning (L T X C : List ℕ) (from n : ℕ) (O X′ C′ : List ℕ) (
   pub vars : OldVars X′ n m (length T)
   pub fitX : m ≤ length X
   pub fitC : m ≤ length C
+  pub cost : m + weights T ≤ n + weights O
+  pub within : (vs : List ℕ) → OldIn X 0 n vs → Within vs T → Within vs O
   pub pars : (x : ℕ) → par O x ≡ par T x
   pub kept : (x : ℕ) → (getD O x 0 % 4 ≡ 3) ⊎ (getD O x 0 ≡ getD T x 0)
   pub unbound : (x : ℕ) → getD O x 0 % 4 ≡ 3 → getD T x 0 % 4 ≡ 0
@@ -51,6 +54,8 @@ pub record Marks (T X C : List ℕ) (n : ℕ) (O X′ C′ : List ℕ) (m : ℕ)
   pub vars : OldVars X′ n m (length T)
   pub fitX : m ≤ length X
   pub fitC : m ≤ length C
+  pub cost : m + weights T ≤ n + weights O
+  pub within : (vs : List ℕ) → OldIn X 0 n vs → Within vs T → Within vs O
 
 abbrev pub Looking : List ℕ → List ℕ → List ℕ → List ℕ → ℕ → ℕ → List ℕ → List ℕ → List ℕ → ℕ → Owned → Type 0
 Looking L T X C from n O X′ C′ i (Apart m) = Owning L T X C from n O X′ C′ i m

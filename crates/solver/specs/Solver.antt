@@ -10,7 +10,7 @@ use Rattle.constraint.specs.Tree.{Label}
 use Rattle.constraint.specs.Constraint.{Asg, Store, Sats, Satisfiable, Quiet, In, Fresh}
 use Rattle.words.specs.declared.Word.{Word}
 use Rattle.unify.specs.Read.{Distinct}
-use Rattle.unify.specs.Steps.{Filled}
+use Rattle.unify.specs.Steps.{Short}
 use Rattle.tells.specs.Tells.{State, Means, Left}
 use Rattle.cycles.specs.Search.{Fitting, Tested, Acyclic}
 use Rattle.solver.specs.Owners.{Outer, CanLookAll}
@@ -28,20 +28,21 @@ Marking L vs = (x : ℕ) → In x vs ↔ (Outer L x → ⊥)
 
 -- what stands at an earlier mark: an environment that has solutions
 pub record Before (W : List Word) (P T X C : List ℕ) (n a : ℕ) (lab : ℕ → Label) (vs : List ℕ) (env : Store) (P₀ T₀ X₀ C₀ : List ℕ) (n₀ a₀ : ℕ) : Type 0 where
-  pub left : Left P₀ T₀ X₀ C₀ n₀ a₀ P T X C n a
+  pub left : Left W P₀ T₀ X₀ C₀ n₀ a₀ P T X C n a
   pub state : State W P₀ T₀ X₀ C₀ n₀ a₀
   pub acyclic : Acyclic W P₀ T₀
   pub means : Means lab W P₀ T₀ env
   pub fresh : Fresh vs env
 
--- the answer to whether what was told since the mark n₀ is quiet
-abbrev pub Quietly : Type 0 → Calm → Type 0
-Quietly Q Silent = Q
-Quietly Q Loudly = Q → ⊥
-Quietly Q NoSpace = Unit {0}
+-- Q is true of what was told before the mark n₀ and of what was told since
+pub record Since (W : List Word) (L P T X C : List ℕ) (n a n₀ : ℕ) (Q : List ℕ → Store → Store → Type 0) : Type 0 where
+  pub right : (P₀ T₀ X₀ C₀ : List ℕ) (a₀ : ℕ) (lab : ℕ → Label) (vs : List ℕ) (env σ : Store) → Before W P T X C n a lab vs env P₀ T₀ X₀ C₀ n₀ a₀ → Marking L vs → Means lab W P T (env ++ σ) → Q vs env σ
 
-pub record Calmed (W : List Word) (L P T X C : List ℕ) (n a n₀ : ℕ) (r : Calm) : Type 0 where
-  pub right : (P₀ T₀ X₀ C₀ : List ℕ) (a₀ : ℕ) (lab : ℕ → Label) (vs : List ℕ) (env σ : Store) → Before W P T X C n a lab vs env P₀ T₀ X₀ C₀ n₀ a₀ → Marking L vs → Means lab W P T (env ++ σ) → Quietly (Quiet vs env σ) r
+-- the answer to whether what was told since the mark n₀ is quiet; there is none only if the trail is too short for the words
+abbrev pub Calmed : List Word → List ℕ → List ℕ → List ℕ → List ℕ → List ℕ → ℕ → ℕ → ℕ → Calm → Type 0
+Calmed W L P T X C n a n₀ Silent = Since W L P T X C n a n₀ Quiet
+Calmed W L P T X C n a n₀ Loudly = Since W L P T X C n a n₀ (λ vs env σ. Quiet vs env σ → ⊥)
+Calmed W L P T X C n a n₀ NoSpace = Short W T X C
 
 -- what the quiet test needs
 pub record CanCalm (W : List Word) (L P T X C M K D : List ℕ) (n a n₀ : ℕ) : Type 0 where

@@ -34,7 +34,7 @@ pub extern "C" fn solver_judge(
     stack: &mut [u8],
     dones: &mut [u8],
 ) -> u32
-    ensures { λ n. ⌜ Numbered (Judgement (words (now (t .entry))) from mid to (now (locals .entry)) (longs (now (pos .entry))) (triples (now (cells .entry))) (shorts (now (marks .entry))) (shorts (now (stack .entry))) (longs (now (dones .entry)))) n ⌝ }
+    ensures { λ n. ⌜ Numbered (Judgement (words (now (t .entry))) from mid to (now (locals .entry)) (longs (now (pos .entry))) (triples (now (cells .entry))) (shorts (now (vars .entry))) (triples (now (olds .entry))) (shorts (now (marks .entry))) (shorts (now (stack .entry))) (longs (now (dones .entry)))) n ⌝ }
 {
     let r = judge::judge(
         t,

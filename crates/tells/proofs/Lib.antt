@@ -1,3 +1,4 @@
 pub mod Taking
 pub mod Ranges
+pub mod Counts
 pub mod Telling

@@ -6,11 +6,12 @@ use Prim.Native.Nat.{ℕ, zero, suc, _+_, _≤_, _<_}
 use native.Mathlib.Omega.{arith}
 use lib.ListN.{length, getD}
 use Rattle.constraint.specs.Tree.{Label}
-use Rattle.constraint.specs.Constraint.{Asg}
+use Rattle.constraint.specs.Constraint.{Asg, In}
 use Rattle.constraint.proofs.FormSteps.{Holds}
 use Rattle.words.specs.declared.Word.{Word}
-use Rattle.classes.specs.Means.{Fits, Pend, Apps, OldApps, OldVars, Joined}
+use Rattle.classes.specs.Means.{Fits, Pend, Apps, OldApps, OldVars, Within, Joined}
 use Rattle.unify.specs.Read.{tabOf, Distinct}
+use Rattle.unify.specs.Reach.{varsOf}
 use Rattle.unify.specs.Steps.{Step, Sound, Held, Holding, CanSettle, Settled, Settling}
 use Rattle.unify.specs.declared.Went.{Went}
 use Rattle.unify.specs.declared.Went.the-variants.{On, Clash, Full}
@@ -19,12 +20,12 @@ use Rattle.tells.specs.Tells.{CanEquate, CanApply, Took, Taking}
 
 -- a constraint was taken in, and the trail's entries from n on are still to settle
 pub record Taken (W : List Word) (P T X C : List ℕ) (n b : ℕ) (Q : (ℕ → Label) → Asg → Type 0) (T₁ X₁ C₁ : List ℕ) (m : ℕ) : Type 0 where
-  pub step : Step T X C n T₁ X₁ C₁ m
+  pub step : Step W T X C n T₁ X₁ C₁ m
   pub apps : (i : ℕ) → b ≤ i → Apps T i → Apps T₁ i × OldApps C₁ n m i
   pub means : (lab : ℕ → Label) (ρ : Asg) → (Fits (tabOf lab W P) T ρ × Q lab ρ) ↔ (Fits (tabOf lab W P) T₁ ρ × Pend (tabOf lab W P) X₁ C₁ n m ρ)
 
-pub taken-joined : (W : List Word) (P T X C : List ℕ) (n x y : ℕ) (T₁ X₁ C₁ : List ℕ) (m : ℕ) → Joined T X C n x y T₁ X₁ C₁ m → n + 2 ≤ length X → n + 2 ≤ length C → Taken W P T X C n 0 (λ lab ρ. ρ x ≡ ρ y) T₁ X₁ C₁ m
-taken-joined W P T X C n x y T₁ X₁ C₁ m j rx rc = record { step = step-joined j rx rc; apps = λ i l A. j .apps i A; means = λ lab ρ. j .means (tabOf lab W P) ρ }
+pub taken-joined : (W : List Word) (P T X C : List ℕ) (n x y : ℕ) (T₁ X₁ C₁ : List ℕ) (m : ℕ) → Joined T X C n x y T₁ X₁ C₁ m → In x (varsOf W) → In y (varsOf W) → Within (varsOf W) T → n + 2 ≤ length X → n + 2 ≤ length C → Taken W P T X C n 0 (λ lab ρ. ρ x ≡ ρ y) T₁ X₁ C₁ m
+taken-joined W P T X C n x y T₁ X₁ C₁ m j ix iy w rx rc = record { step = step-joined W j ix iy w rx rc; apps = λ i l A. j .apps i A; means = λ lab ρ. j .means (tabOf lab W P) ρ }
 
 pub taken-held : (W : List Word) (P T X C : List ℕ) (n x k : ℕ) (T₁ X₁ C₁ : List ℕ) (m : ℕ) (o : Went) → Holding W P T X C n x k T₁ X₁ C₁ o → o ≡ On m → Taken W P T X C n (k + 1) (λ lab ρ. Holds ρ x (tabOf lab W P k)) T₁ X₁ C₁ m
 taken-held W P T X C n x k T₁ X₁ C₁ m o h e = let g : Held W P T X C n x k T₁ X₁ C₁ m = subst (Holding W P T X C n x k T₁ X₁ C₁) e h in record { step = g .step; apps = λ i l A. g .apps i (omega arith) A; means = g .means }
@@ -40,11 +41,12 @@ module _ (W : List Word) (P T X C : List ℕ) (n b : ℕ) (Q : (ℕ → Label) �
   can-settle s A z l =
       let a = K .apps (length P) l A in
       record {
-        sound = record { up = K .step .up; vars = record { low = λ j. omega (arith, s .vars .low j, K .step .grown .sizeT) }; long = s .long; fitX = omega (arith, K .step .fitX, K .step .grown .sizeX); fitC = omega (arith, K .step .fitC, K .step .grown .sizeC) };
+        sound = record { up = K .step .up; vars = record { low = λ j. omega (arith, s .vars .low j, K .step .grown .sizeT) }; long = s .long; fitX = omega (arith, K .step .fitX, K .step .grown .sizeX); fitC = omega (arith, K .step .fitC, K .step .grown .sizeC); plain = λ y z. s .plain y (K .step .plain y z); within = K .step .within };
         le = K .step .grown .le;
         apps = a .0;
         olds = a .1;
         vars = subst (OldVars X₁ n m) (sym (K .step .grown .sizeT)) (K .step .vars);
+        used = K .step .used;
         size = z;
       }
 

@@ -8,7 +8,7 @@ ghost use Rattle.constraint.proofs.FormSteps.{Holds};
 ghost use Rattle.numbers.specs.Numbers.{shorts, triples, longs};
 ghost use Rattle.words.specs.Words.{words};
 ghost use Rattle.unify.specs.Read.{tabOf};
-ghost use Rattle.tells.specs.Tells.{beginsOf, beginsSort, CanEquate, CanApply, Taking, CanOne, CanTell, Telling, oneAt, rangeOf, CanBack, Back};
+ghost use Rattle.tells.specs.Tells.{beginsOf, beginsSort, CanEquate, CanApply, Taking, CanOne, CanTell, Telling, oneAt, rangeOf, appsAt, appsIn, CanBack, Back};
 use unify::Went;
 use words::Sort;
 use words::Word;
@@ -111,7 +111,7 @@ pub fn tell_one(
     i: usize,
 ) -> Told
     requires { ⌜ CanOne (words (now t)) (longs (now pos)) (triples (now cells)) (shorts (now vars)) (triples (now olds)) n a i ⌝ }
-    ensures { λ r. ⌜ Telling (words (now (t .entry))) (longs (now (pos .entry))) (triples (now (cells .entry))) (shorts (now (vars .entry))) (triples (now (olds .entry))) n a (oneAt (words (now (t .entry))) i) (longs (now (pos .exit))) (triples (now (cells .exit))) (shorts (now (vars .exit))) (triples (now (olds .exit))) r ⌝ }
+    ensures { λ r. ⌜ Telling (words (now (t .entry))) (longs (now (pos .entry))) (triples (now (cells .entry))) (shorts (now (vars .entry))) (triples (now (olds .entry))) n a (appsAt (words (now (t .entry))) i) (oneAt (words (now (t .entry))) i) (longs (now (pos .exit))) (triples (now (cells .exit))) (shorts (now (vars .exit))) (triples (now (olds .exit))) r ⌝ }
 {
     let b = begins(unify::peek(t, i));
     let j = i + 1;
@@ -170,7 +170,7 @@ pub fn tell(
     to: usize,
 ) -> Told
     requires { ⌜ CanTell (words (now t)) (longs (now pos)) (triples (now cells)) (shorts (now vars)) (triples (now olds)) n a from to ⌝ }
-    ensures { λ r. ⌜ Telling (words (now (t .entry))) (longs (now (pos .entry))) (triples (now (cells .entry))) (shorts (now (vars .entry))) (triples (now (olds .entry))) n a (rangeOf (words (now (t .entry))) from to) (longs (now (pos .exit))) (triples (now (cells .exit))) (shorts (now (vars .exit))) (triples (now (olds .exit))) r ⌝ }
+    ensures { λ r. ⌜ Telling (words (now (t .entry))) (longs (now (pos .entry))) (triples (now (cells .entry))) (shorts (now (vars .entry))) (triples (now (olds .entry))) n a (appsIn (words (now (t .entry))) from to) (rangeOf (words (now (t .entry))) from to) (longs (now (pos .exit))) (triples (now (cells .exit))) (shorts (now (vars .exit))) (triples (now (olds .exit))) r ⌝ }
 {
     let mut i = from;
     let mut m = n;

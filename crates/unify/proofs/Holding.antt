@@ -6,16 +6,18 @@ use Prim.Native.Nat.{ℕ, zero, suc, _+_, _*_, _/_, _%_, _≤_, _<_}
 use native.Mathlib.Omega.{arith}
 use lib.ListN.{length, getD}
 use Rattle.constraint.specs.Tree.{Label}
-use Rattle.constraint.specs.Constraint.{Asg}
+use Rattle.constraint.specs.Constraint.{Asg, In}
 use Rattle.constraint.specs.Solve.{Bnd, free, fun}
 use Rattle.constraint.proofs.FormSteps.{Holds}
 use Rattle.words.specs.declared.Word.{Word}
 use Rattle.classes.specs.Cells.{par, rep, Up, Found}
 use Rattle.classes.specs.Trail.{Saved, CanSave, grown-saved, grows-bound}
+use Rattle.classes.specs.Weights.{weights-stored, weight-free, weight-taken}
 use Rattle.classes.specs.Means.{bound, Fits, Pend, Apps, OldApps, OldVars}
 use Rattle.classes.proofs.Tables.{cell-cases, up-root, fits-rep, fits-holds, fits-bind, bound-yes, bound-no, holds-move, holds-none}
-use Rattle.classes.proofs.Linking.{root-cell, one-pend, one-apps, one-vars, apps-saved}
+use Rattle.classes.proofs.Linking.{root-cell, one-pend, one-apps, one-vars, one-in, within-saved, rep-in, apps-saved}
 use Rattle.unify.specs.Read.{termAt, tabOf, treeAt, Distinct}
+use Rattle.unify.specs.Reach.{varsOf}
 use Rattle.unify.specs.Steps.{Step, Sound, CanHold, Met, Meeting, Held, Holding}
 use Rattle.unify.specs.declared.Went.{Went}
 use Rattle.unify.specs.declared.Went.the-variants.{On, Clash, Full}
@@ -33,9 +35,9 @@ module _ (W : List Word) (P T : List ℕ) (U : Up T) (x r c : ℕ) (f : Found T 
       let h : Holds ρ r (tabOf lab W P (c / 256)) = subst (Holds ρ r) (ap (bound (tabOf lab W P)) (sym e) ∙ bound-yes (tabOf lab W P) c t) (fits-holds (tabOf lab W P) T ρ F r (f .root)) in
       fits-rep (tabOf lab W P) T U ρ F x ∙ ap ρ (sym (f .is)) ∙ holds-tree lab W P ρ r (c / 256) .0 h
 
-  pub held-same : (X C : List ℕ) (n k : ℕ) → n ≤ length X → n ≤ length C → c / 256 ≡ k → Held W P T X C n x k T X C n
-  held-same X C n k fx fc q = record {
-    step = step-none T X C n U fx fc;
+  pub held-same : (X C : List ℕ) (n k : ℕ) → Sound W T X C n → c / 256 ≡ k → Held W P T X C n x k T X C n
+  held-same X C n k h q = record {
+    step = step-none W T X C n h;
     apps = λ m l A. (A, apps-none C n m);
     means = λ lab ρ. (λ w. (w .0, pend-none (tabOf lab W P) X C n ρ), λ w. (w .0, holds-tree lab W P ρ x k .1 (class-holds lab ρ (w .0) ∙ ap (λ (i : ℕ). treeAt lab W ρ (getD P i 0)) q)));
   }
@@ -56,13 +58,16 @@ module _ (W : List Word) (P T : List ℕ) (U : Up T) (x r c : ℕ) (f : Found T 
 pub held-bind : (W : List Word) (P T X C : List ℕ) (n x k r c d : ℕ) (T′ X′ C′ : List ℕ) → CanHold W P T X C n x k → Found T x r → c ≡ getD T r 0 → (c % 4 ≡ 2 → ⊥) → CanSave T X C n r d → Saved T X C n r d T′ X′ C′ → d % 4 ≡ 2 → d / 256 ≡ k → d / 4 % 64 ≡ c / 4 % 64
     → Held W P T X C n x k T′ X′ C′ (n + 1)
 held-bind W P T X C n x k r c d T′ X′ C′ h f e nb s g t v q = record {
-  step = record { grown = grown-saved s (grows-bound (getD T r 0) d t) g; up = U′; vars = one-vars s g; plain = cell-cases (λ (y d′ : ℕ). d′ % 4 ≡ 3 → getD T y 0 % 4 ≡ 3) (g .cells) (s .inside) (λ z. absurd (omega arith)) (λ y q z. z); fitX = omega (arith, s .roomX); fitC = omega (arith, s .roomC) };
+  step = record { grown = grown-saved s (grows-bound (getD T r 0) d t) g; up = U′; vars = one-vars s g; plain = cell-cases (λ (y d′ : ℕ). d′ % 4 ≡ 3 → getD T y 0 % 4 ≡ 3) (g .cells) (s .inside) (λ z. absurd (omega arith)) (λ y q z. z); fitX = omega (arith, s .roomX); fitC = omega (arith, s .roomC); cost = omega (arith, weights-stored (g .cells) (s .inside), weight-free (getD T r 0) nl nr (h .sound .plain r), weight-taken d (λ z. omega arith) (λ z. omega arith)); within = within-saved s g (varsOf W) ir (λ z. absurd (omega arith)) (h .sound .within); used = one-in s g (varsOf W) ir };
   apps = λ m l A. (apps-saved s g m (λ z. omega arith) A, one-apps s g m A);
   means = λ lab ρ. (λ w. (b lab ρ .0 (w .0, subst (λ (i : ℕ). Holds ρ r (tabOf lab W P i)) (sym v) (holds-move ρ x r _ (to lab ρ (w .0)) (w .1))), one-pend s g (tabOf lab W P) ρ .0 (subst (Holds ρ r) (sym (none lab)) (holds-none ρ r))), λ w. let u = b lab ρ .1 (w .0) in (u .0, holds-move ρ r x _ (sym (to lab ρ (u .0))) (subst (λ (i : ℕ). Holds ρ r (tabOf lab W P i)) v (u .1))));
 }
   where
     U : Up T
     U = h .sound .up
+
+    ir : In r (varsOf W)
+    ir = subst (λ (z : ℕ). In z (varsOf W)) (sym (f .is)) (rep-in (varsOf W) T (h .sound .within) x (h .used))
 
     nl : getD T r 0 % 4 ≡ 1 → ⊥
     nl = root-cell T U r (f .root)

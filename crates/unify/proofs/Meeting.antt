@@ -16,6 +16,7 @@ use Rattle.words.specs.declared.Word.the-variants.{End, Free, Level, Num, Place
 use Rattle.classes.specs.Cells.{Up}
 use Rattle.classes.specs.Means.{Fits, Pend, Apps, OldApps, OldVars, Joined, CanJoin}
 use Rattle.unify.specs.Read.{varOf, numOf, isVar, argsOf, labelAt, argsAt, treeAt, Distinct, Vars}
+use Rattle.unify.specs.Reach.{var-in}
 use Rattle.unify.specs.Steps.{Step, Sound, CanMeet, Met}
 use Rattle.unify.proofs.Trails.{pend-split, apps-split, pend-none, apps-none, step-none, step-then, step-joined}
 
@@ -65,7 +66,7 @@ args-left ρ x xs e = let z : _≡_ {A = ℕ} 0 1 = cc e in omega arith
 
 -- what a loop over the arguments has done by the i-th
 pub record Meets (W : List Word) (T₀ X₀ C₀ : List ℕ) (n₀ p q : ℕ) (T X C : List ℕ) (n i : ℕ) : Type 0 where
-  pub step : Step T₀ X₀ C₀ n₀ T X C n
+  pub step : Step W T₀ X₀ C₀ n₀ T X C n
   pub apps : (m : ℕ) → Apps T₀ m → Apps T m × OldApps C n₀ n m
   pub label : labelAt W p ≡ labelAt W q
   pub low : i ≤ length W
@@ -74,7 +75,7 @@ pub record Meets (W : List Word) (T₀ X₀ C₀ : List ℕ) (n₀ p q : ℕ) (T
 pub meets-first : (W : List Word) (T X C : List ℕ) (n p q : ℕ) → CanMeet W T X C n p q → labelAt W p ≡ labelAt W q → Meets W T X C n p q T X C n 0
 unfolding argsAt
 meets-first W T X C n p q h e = record {
-  step = step-none T X C n (h .sound .up) (h .sound .fitX) (h .sound .fitC);
+  step = step-none W T X C n (h .sound);
   apps = λ m A. (A, apps-none C n m);
   label = e;
   low = omega arith;
@@ -88,7 +89,7 @@ pub meets-next : (W : List Word) (T₀ X₀ C₀ : List ℕ) (n₀ p q : ℕ) (T
     → Meets W T₀ X₀ C₀ n₀ p q T X C n i → isVar (getD W (p + 3 + i) Bad) ≡ true → isVar (getD W (q + 3 + i) Bad) ≡ true → x ≡ varOf (getD W (p + 3 + i) Bad) → y ≡ varOf (getD W (q + 3 + i) Bad)
     → n + 2 ≤ length X → n + 2 ≤ length C → Joined T X C n x y T′ X′ C′ n′ → Meets W T₀ X₀ C₀ n₀ p q T′ X′ C′ n′ (i + 1)
 meets-next W T₀ X₀ C₀ n₀ p q T X C n i T′ X′ C′ n′ x y M vp vq ex ey rx rc J = record {
-  step = step-then (M .step) (step-joined J rx rc);
+  step = step-then (M .step) (step-joined W J (var-in W (p + 3 + i) x ex) (var-in W (q + 3 + i) y ey) (M .step .within) rx rc);
   apps = λ m A. let a = M .apps m A in let b = J .apps m (a .0) in (b .0, apps-split X C X′ C′ n₀ n n′ (J .grown .oldX) (J .grown .oldC) m (a .1) (b .1));
   label = M .label;
   low = omega (arith, var-inside W (p + 3 + i) vp);

@@ -6,29 +6,31 @@ use Prim.Native.Nat.{ℕ, zero, suc, _+_, _*_, _/_, _%_, _≤_, _<_}
 use native.Mathlib.Omega.{arith}
 use lib.ListN.{length, getD}
 use Rattle.constraint.specs.Tree.{Label}
-use Rattle.constraint.specs.Constraint.{Asg}
+use Rattle.constraint.specs.Constraint.{Asg, In}
 use Rattle.constraint.specs.Solve.{Bnd, free, fun}
 use Rattle.constraint.proofs.FormSteps.{Holds}
 use Rattle.words.specs.declared.Word.{Word}
 use Rattle.classes.specs.Cells.{par, rep, Up, Found}
-use Rattle.classes.specs.Means.{bound, Fits, Pend, Apps, OldApps, OldVars}
+use Rattle.classes.specs.Means.{bound, Fits, Pend, Apps, OldApps, OldVars, OldIn}
 use Rattle.classes.proofs.Tables.{bound-yes, bound-no, holds-none}
 use Rattle.unify.specs.Read.{tabOf, Distinct}
+use Rattle.unify.specs.Reach.{varsOf}
 use Rattle.unify.specs.Steps.{Step, Sound, CanHold, CanSettle, Held, Holding, Settled, Settling}
 use Rattle.unify.specs.declared.Went.{Went}
 use Rattle.unify.specs.declared.Went.the-variants.{On, Clash, Full}
-use Rattle.unify.proofs.Trails.{step-none, step-then, pend-none, pend-first, pend-split, apps-split, vars-split, apps-less, vars-less, apps-of, vars-of, filled-then}
+use Rattle.unify.proofs.Trails.{step-none, step-then, pend-none, pend-first, pend-split, apps-split, vars-split, apps-less, vars-less, in-split, in-less, in-of, apps-of, vars-of, filled-then}
 
 -- what a loop over the entries has done by the i-th
 pub record Settles (W : List Word) (P T₀ X₀ C₀ : List ℕ) (i₀ n₀ : ℕ) (T X C : List ℕ) (i n : ℕ) : Type 0 where
-  pub step : Step T₀ X₀ C₀ n₀ T X C n
+  pub step : Step W T₀ X₀ C₀ n₀ T X C n
   pub le : i ≤ n
   pub apps : (m : ℕ) → Apps T₀ m → OldApps C₀ i₀ n₀ m → Apps T m × OldApps C i n m
   pub vars : OldVars X i n (length T)
+  pub used : OldIn X i n (varsOf W)
   pub means : (lab : ℕ → Label) (ρ : Asg) → (Fits (tabOf lab W P) T₀ ρ × Pend (tabOf lab W P) X₀ C₀ i₀ n₀ ρ) ↔ (Fits (tabOf lab W P) T ρ × Pend (tabOf lab W P) X C i n ρ)
 
 pub settles-first : (W : List Word) (P T X C : List ℕ) (i n : ℕ) → CanSettle W P T X C i n → Settles W P T X C i n T X C i n
-settles-first W P T X C i n h = record { step = step-none T X C n (h .sound .up) (h .sound .fitX) (h .sound .fitC); le = h .le; apps = λ m A O. (A, O); vars = h .vars; means = λ lab ρ. (λ w. w, λ w. w) }
+settles-first W P T X C i n h = record { step = step-none W T X C n (h .sound); le = h .le; apps = λ m A O. (A, O); vars = h .vars; used = h .used; means = λ lab ρ. (λ w. w, λ w. w) }
 
 module _ (W : List Word) (P T₀ X₀ C₀ : List ℕ) (i₀ n₀ : ℕ) (T X C : List ℕ) (i n x c : ℕ) (S : Settles W P T₀ X₀ C₀ i₀ n₀ T X C i n) (l : i < n) (ex : x ≡ getD X i 0) (ec : c ≡ getD C i 0) where
   first : (lab : ℕ → Label) (ρ : Asg) → Pend (tabOf lab W P) X C i n ρ ↔ (Holds ρ x (bound (tabOf lab W P) c) × Pend (tabOf lab W P) X C (i + 1) n ρ)
@@ -42,6 +44,7 @@ module _ (W : List Word) (P T₀ X₀ C₀ : List ℕ) (i₀ n₀ : ℕ) (T X C 
     le = omega arith;
     apps = λ m A O. let w = S .apps m A O in (w .0, apps-less C i (i + 1) n m (omega arith) (w .1));
     vars = vars-less X i (i + 1) n (length T) (omega arith) (S .vars);
+    used = in-less X i (i + 1) n (varsOf W) (omega arith) (S .used);
     means = λ lab ρ. (λ w. let u = S .means lab ρ .0 w in (u .0, (first lab ρ .0 (u .1)) .1), λ w. S .means lab ρ .1 (w .0, first lab ρ .1 (subst (Holds ρ x) (sym (bound-no (tabOf lab W P) c nb)) (holds-none ρ x), w .1)));
   }
 
@@ -52,8 +55,9 @@ module _ (W : List Word) (P T₀ X₀ C₀ : List ℕ) (i₀ n₀ : ℕ) (T X C 
   can-hold h t =
       let a = S .apps (length P) (h .apps) (h .olds) in
       record {
-        sound = record { up = S .step .up; vars = record { low = λ j. omega (arith, h .sound .vars .low j, S .step .grown .sizeT) }; long = h .sound .long; fitX = omega (arith, S .step .fitX, S .step .grown .sizeX); fitC = omega (arith, S .step .fitC, S .step .grown .sizeC) };
+        sound = record { up = S .step .up; vars = record { low = λ j. omega (arith, h .sound .vars .low j, S .step .grown .sizeT) }; long = h .sound .long; fitX = omega (arith, S .step .fitX, S .step .grown .sizeX); fitC = omega (arith, S .step .fitC, S .step .grown .sizeC); plain = λ y z. h .sound .plain y (S .step .plain y z); within = S .step .within };
         var = subst (λ (z : ℕ). z < length T) (sym ex) (vars-of X i n (length T) (S .vars) i (omega arith) l);
+        used = subst (λ (z : ℕ). In z (varsOf W)) (sym ex) (in-of X i n (varsOf W) (S .used) i (omega arith) l);
         app = at-app (length P) t (a .1);
         apps = a .0;
         size = h .size;
@@ -67,6 +71,7 @@ module _ (W : List Word) (P T₀ X₀ C₀ : List ℕ) (i₀ n₀ : ℕ) (T X C 
       le = omega (arith, H .step .grown .le);
       apps = λ m A O. let a = S .apps m A O in let b = H .apps m (at-app m t (a .1)) (a .0) in (b .0, apps-split X C X′ C′ (i + 1) n n′ ox oc m (apps-less C i (i + 1) n m (omega arith) (a .1)) (b .1));
       vars = vars-split X C X′ C′ (i + 1) n n′ ox oc (length T′) (subst (OldVars X (i + 1) n) (sym (H .step .grown .sizeT)) (vars-less X i (i + 1) n (length T) (omega arith) (S .vars))) (subst (OldVars X′ n n′) (sym (H .step .grown .sizeT)) (H .step .vars));
+      used = in-split X C X′ C′ (i + 1) n n′ ox oc (varsOf W) (in-less X i (i + 1) n (varsOf W) (omega arith) (S .used)) (H .step .used);
       means = λ lab ρ. (λ w. let u = S .means lab ρ .0 w in let v = first lab ρ .0 (u .1) in let y = H .means lab ρ .0 (u .0, subst (Holds ρ x) (bound-yes (tabOf lab W P) c t) (v .0)) in (y .0, split lab ρ .0 (v .1, y .1)), λ w. let s = split lab ρ .1 (w .1) in let y = H .means lab ρ .1 (w .0, s .1) in S .means lab ρ .1 (y .0, first lab ρ .1 (subst (Holds ρ x) (sym (bound-yes (tabOf lab W P) c t)) (y .1), s .0)));
     }
       where

@@ -2,17 +2,20 @@
 use mathlib.Core.Path.{_≡_, refl, ap, sym, _∙_, subst}
 use mathlib.Core.Logic.{_↔_, _⊎_, inl, inr}
 use mathlib.Core.List.{List}
-use Prim.Native.Nat.{ℕ, _+_, _-_, _≤_, _<_, _%_, _/_}
+use Prim.Native.Nat.{ℕ, _+_, _-_, _*_, _≤_, _<_, _%_, _/_}
 use native.Mathlib.Omega.{arith}
 use native.Mathlib.Decide.{decLt}
 use lib.ListN.{length, getD}
-use Rattle.constraint.specs.Constraint.{Asg}
+use Rattle.constraint.specs.Constraint.{Asg, In}
 use Rattle.constraint.specs.Solve.{Bnd}
 use Rattle.constraint.proofs.FormSteps.{Holds}
 use Rattle.classes.specs.Cells.{Up}
 use Rattle.classes.specs.Trail.{Grown, grown-none, grown-then, Saved, CanSave, grown-saved}
-use Rattle.classes.specs.Means.{bound, Fits, Pend, Apps, OldApps, OldVars, Joined}
-use Rattle.unify.specs.Steps.{Step}
+use Rattle.classes.specs.Weights.{weights}
+use Rattle.classes.specs.Means.{bound, Fits, Pend, Apps, OldApps, OldVars, Within, OldIn, Joined}
+use Rattle.words.specs.declared.Word.{Word}
+use Rattle.unify.specs.Reach.{varsOf, reach, reach-same, weights-reach}
+use Rattle.unify.specs.Steps.{Step, Sound, Filled, Short}
 
 module _ (X C X′ C′ : List ℕ) (i n n′ : ℕ) (hx : (t : ℕ) → t < n → getD X′ t 0 ≡ getD X t 0) (hc : (t : ℕ) → t < n → getD C′ t 0 ≡ getD C t 0) where
   pub pend-split : (tab : ℕ → Bnd) (ρ : Asg) → i ≤ n → n ≤ n′ → (Pend tab X C i n ρ × Pend tab X′ C′ n n′ ρ) ↔ Pend tab X′ C′ i n′ ρ
@@ -39,6 +42,14 @@ module _ (X C X′ C′ : List ℕ) (i n n′ : ℕ) (hx : (t : ℕ) → t < n �
       go (yes h) = subst (λ (z : ℕ). z < s) (sym (hx t h)) (p t a h)
       go (no h) = q t (omega arith) b
 
+  pub in-split : (vs : List ℕ) → OldIn X i n vs → OldIn X′ n n′ vs → OldIn X′ i n′ vs
+  unfolding OldIn
+  in-split vs p q t a b = go (decLt t n)
+    where
+      go : Dec (t < n) → In (getD X′ t 0) vs
+      go (yes h) = subst (λ (z : ℕ). In z vs) (sym (hx t h)) (p t a h)
+      go (no h) = q t (omega arith) b
+
 -- the trail's entries from j on, where j is not before i
 pub pend-less : (tab : ℕ → Bnd) (X C : List ℕ) (i j n : ℕ) (ρ : Asg) → i ≤ j → Pend tab X C i n ρ → Pend tab X C j n ρ
 unfolding Pend
@@ -51,6 +62,18 @@ apps-less C i j n m l p t a b = p t (omega arith) b
 pub vars-less : (X : List ℕ) (i j n s : ℕ) → i ≤ j → OldVars X i n s → OldVars X j n s
 unfolding OldVars
 vars-less X i j n s l p t a b = p t (omega arith) b
+
+pub in-less : (X : List ℕ) (i j n : ℕ) (vs : List ℕ) → i ≤ j → OldIn X i n vs → OldIn X j n vs
+unfolding OldIn
+in-less X i j n vs l p t a b = p t (omega arith) b
+
+in-none : (X : List ℕ) (n : ℕ) (vs : List ℕ) → OldIn X n n vs
+unfolding OldIn
+in-none X n vs t a b = absurd (omega arith)
+
+pub in-of : (X : List ℕ) (i n : ℕ) (vs : List ℕ) → OldIn X i n vs → (t : ℕ) → i ≤ t → t < n → In (getD X t 0) vs
+unfolding OldIn
+in-of X i n vs p = p
 
 pub apps-none : (C : List ℕ) (n m : ℕ) → OldApps C n n m
 unfolding OldApps
@@ -80,23 +103,35 @@ pend-first tab X C i n ρ l = (λ p. (p i (omega arith) l, λ t a b. p t (omega 
     go q t a b (yes h) = q .1 t (omega arith) b
     go q t a b (no h) = let e : i ≡ t = omega arith in subst (λ (s : ℕ). Holds ρ (getD X s 0) (bound tab (getD C s 0))) e (q .0)
 
-pub step-none : (T X C : List ℕ) (n : ℕ) → Up T → n ≤ length X → n ≤ length C → Step T X C n T X C n
-step-none T X C n U fx fc = record { grown = grown-none T X C n; up = U; vars = vars-none X n (length T); plain = λ x e. e; fitX = fx; fitC = fc }
+pub step-none : (W : List Word) (T X C : List ℕ) (n : ℕ) → Sound W T X C n → Step W T X C n T X C n
+step-none W T X C n s = record { grown = grown-none T X C n; up = s .up; vars = vars-none X n (length T); plain = λ x e. e; fitX = s .fitX; fitC = s .fitC; cost = omega arith; within = s .within; used = in-none X n (varsOf W) }
 
-pub step-then : {T X C T′ X′ C′ T″ X″ C″ : List ℕ} {n n′ n″ : ℕ} → Step T X C n T′ X′ C′ n′ → Step T′ X′ C′ n′ T″ X″ C″ n″ → Step T X C n T″ X″ C″ n″
-step-then {T} {X} {C} {T′} {X′} {C′} {T″} {X″} {C″} {n} {n′} {n″} a b = record {
+pub step-then : {W : List Word} {T X C T′ X′ C′ T″ X″ C″ : List ℕ} {n n′ n″ : ℕ} → Step W T X C n T′ X′ C′ n′ → Step W T′ X′ C′ n′ T″ X″ C″ n″ → Step W T X C n T″ X″ C″ n″
+step-then {W} {T} {X} {C} {T′} {X′} {C′} {T″} {X″} {C″} {n} {n′} {n″} a b = record {
   grown = grown-then (a .grown) (b .grown);
   up = b .up;
   vars = vars-split X′ C′ X″ C″ n n′ n″ (b .grown .oldX) (b .grown .oldC) (length T) (a .vars) (subst (OldVars X″ n′ n″) (a .grown .sizeT) (b .vars));
   plain = λ x e. a .plain x (b .plain x e);
   fitX = omega (arith, b .fitX, a .grown .sizeX);
   fitC = omega (arith, b .fitC, a .grown .sizeC);
+  cost = omega (arith, a .cost, b .cost);
+  within = b .within;
+  used = in-split X′ C′ X″ C″ n n′ n″ (b .grown .oldX) (b .grown .oldC) (varsOf W) (a .used) (b .used);
 }
 
-pub step-joined : {T X C T′ X′ C′ : List ℕ} {n n′ x y : ℕ} → Joined T X C n x y T′ X′ C′ n′ → n + 2 ≤ length X → n + 2 ≤ length C → Step T X C n T′ X′ C′ n′
-step-joined j hx hc = record { grown = j .grown; up = j .up; vars = j .vars; plain = j .plain; fitX = omega (arith, j .short); fitC = omega (arith, j .short) }
+pub step-joined : (W : List Word) {T X C T′ X′ C′ : List ℕ} {n n′ x y : ℕ} → Joined T X C n x y T′ X′ C′ n′ → In x (varsOf W) → In y (varsOf W) → Within (varsOf W) T → n + 2 ≤ length X → n + 2 ≤ length C → Step W T X C n T′ X′ C′ n′
+step-joined W j ix iy w hx hc = let v = j .within (varsOf W) ix iy w in record { grown = j .grown; up = j .up; vars = j .vars; plain = j .plain; fitX = omega (arith, j .short); fitC = omega (arith, j .short); cost = j .cost; within = v .0; used = v .1 }
 
 -- a trail that is full stays full where its lengths stay
 pub filled-then : (X C X′ C′ : List ℕ) (n : ℕ) → length X′ ≡ length X → length C′ ≡ length C → (length X′ < n + 2) ⊎ (length C′ < n + 2) → (length X < n + 2) ⊎ (length C < n + 2)
 filled-then X C X′ C′ n ex ec (inl h) = inl (omega arith)
 filled-then X C X′ C′ n ex ec (inr h) = inr (omega arith)
+
+-- a trail that is full is too short, if the table is at least as heavy as the trail is long
+pub filled-short : (W : List Word) (T T′ X C : List ℕ) (n : ℕ) → length T′ ≡ length T → Within (varsOf W) T′ → n ≤ weights T′ → Filled X C n → Short W T X C
+filled-short W T T′ X C n e w l (inl h) = inl (omega (arith, weights-reach W T′ w, reach-same W T T′ e))
+filled-short W T T′ X C n e w l (inr h) = inr (omega (arith, weights-reach W T′ w, reach-same W T T′ e))
+
+pub short-then : (W : List Word) (T X C T′ X′ C′ : List ℕ) → length T′ ≡ length T → length X′ ≡ length X → length C′ ≡ length C → Short W T′ X′ C′ → Short W T X C
+short-then W T X C T′ X′ C′ et ex ec (inl h) = inl (omega (arith, reach-same W T T′ et))
+short-then W T X C T′ X′ C′ et ex ec (inr h) = inr (omega (arith, reach-same W T T′ et))

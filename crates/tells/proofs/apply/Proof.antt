@@ -14,7 +14,7 @@ use Rattle.tells.proofs.apply.Statement.{statement}
 use Rattle.tells.proofs.apply.Tie as tie
 
 hold-requires : tie.Need-hold-requires
-hold-requires c κs = record { sound = c .before .before .before .before .before .before .before .before .pre .sound; var = c .before .before .before .before .before .before .before .before .pre .inx; app = c .before .before .before .before .before .before .before .before .pre .app; apps = c .before .before .before .before .before .before .before .before .pre .apps; size = c .before .before .before .before .before .before .before .before .pre .size }
+hold-requires c κs = record { sound = c .before .before .before .before .before .before .before .before .pre .sound; var = c .before .before .before .before .before .before .before .before .pre .inx; used = c .before .before .before .before .before .before .before .before .pre .usedx; app = c .before .before .before .before .before .before .before .before .pre .app; apps = c .before .before .before .before .before .before .before .before .pre .apps; size = c .before .before .before .before .before .before .before .before .pre .size }
 
 enum-known-w : tie.Need-enum-known-w
 enum-known-w c = search needs

@@ -5,13 +5,13 @@ use native.Mathlib.Omega.{arith}
 use lib.ListN.{length}
 use Rattle.numbers.specs.Numbers.{shorts, triples, longs}
 use Rattle.words.specs.Words.{words}
-use Rattle.tells.specs.Tells.{rangeOf, Done}
+use Rattle.tells.specs.Tells.{rangeOf, appsIn, Done}
 use Rattle.tells.proofs.Telling.{tell-first, tell-all, tell-clash, tell-full}
 use Rattle.tells.proofs.tell.Statement.{statement}
 use Rattle.tells.proofs.tell.Tie as tie
 
 abbrev Inv-loop : tie.InvT-loop
-Inv-loop t pos₀ cells₀ vars₀ olds₀ n a from to i₀ m₀ k₀ pos cells vars olds i m k = (length pos ≡ length pos₀) × (length cells ≡ length cells₀) × (length vars ≡ length vars₀) × (length olds ≡ length olds₀) × ((from ≤ i) × (i ≤ to)) × Done (words t) (longs pos₀) (triples cells₀) (shorts vars₀) (triples olds₀) n a (rangeOf (words t) from i) (longs pos) (triples cells) (shorts vars) (triples olds) m k
+Inv-loop t pos₀ cells₀ vars₀ olds₀ n a from to i₀ m₀ k₀ pos cells vars olds i m k = (length pos ≡ length pos₀) × (length cells ≡ length cells₀) × (length vars ≡ length vars₀) × (length olds ≡ length olds₀) × ((from ≤ i) × (i ≤ to)) × Done (words t) (longs pos₀) (triples cells₀) (shorts vars₀) (triples olds₀) n a (appsIn (words t) from i) (rangeOf (words t) from i) (longs pos) (triples cells) (shorts vars) (triples olds) m k
 
 abbrev μ-loop : tie.MeasureT-loop
 μ-loop t pos₀ cells₀ vars₀ olds₀ n a from to i₀ m₀ k₀ pos cells vars olds i m k = to - i
@@ -83,7 +83,7 @@ same-length-12 : tie.Need-same-length-12 Inv-loop μ-loop
 same-length-12 c = c .before .loop .inv .3
 
 returns-3 : tie.Need-returns-3 Inv-loop μ-loop
-returns-3 c = let e : c .before .loop .i ≡ c .before .before .before .before .before .before .before .args .to = omega (arith, c .before .loop .inv .4 .1) in subst (λ (j : ℕ). Done (words (c .before .before .before .before .before .before .before .args .t .now)) (longs (c .before .before .before .before .before .before .before .args .pos .now)) (triples (c .before .before .before .before .before .before .before .args .cells .now)) (shorts (c .before .before .before .before .before .before .before .args .vars .now)) (triples (c .before .before .before .before .before .before .before .args .olds .now)) (c .before .before .before .before .before .before .before .args .n) (c .before .before .before .before .before .before .before .args .a) (rangeOf (words (c .before .before .before .before .before .before .before .args .t .now)) (c .before .before .before .before .before .before .before .args .from) j) (longs (c .before .loop .pos)) (triples (c .before .loop .cells)) (shorts (c .before .loop .vars)) (triples (c .before .loop .olds)) (c .before .loop .m) (c .before .loop .k)) e (c .before .loop .inv .5)
+returns-3 c = let e : c .before .loop .i ≡ c .before .before .before .before .before .before .before .args .to = omega (arith, c .before .loop .inv .4 .1) in subst (λ (j : ℕ). Done (words (c .before .before .before .before .before .before .before .args .t .now)) (longs (c .before .before .before .before .before .before .before .args .pos .now)) (triples (c .before .before .before .before .before .before .before .args .cells .now)) (shorts (c .before .before .before .before .before .before .before .args .vars .now)) (triples (c .before .before .before .before .before .before .before .args .olds .now)) (c .before .before .before .before .before .before .before .args .n) (c .before .before .before .before .before .before .before .args .a) (appsIn (words (c .before .before .before .before .before .before .before .args .t .now)) (c .before .before .before .before .before .before .before .args .from) j) (rangeOf (words (c .before .before .before .before .before .before .before .args .t .now)) (c .before .before .before .before .before .before .before .args .from) j) (longs (c .before .loop .pos)) (triples (c .before .loop .cells)) (shorts (c .before .loop .vars)) (triples (c .before .loop .olds)) (c .before .loop .m) (c .before .loop .k)) e (c .before .loop .inv .5)
 
 pub tell-spec : {M : Type 1} → statement M
 tell-spec =

@@ -24,7 +24,7 @@ same-length : tie.Need-same-length
 same-length c = search needs
 
 returns : tie.Need-returns
-returns c = held-same (words (c .before .before .before .before .before .before .before .before .before .before .before .args .t .now)) (longs (c .before .before .before .before .before .before .before .before .before .before .before .args .pos .now)) (triples (c .before .before .before .before .before .before .before .before .before .before .before .args .cells .now)) (c .before .before .before .before .before .before .before .before .before .before .before .pre .sound .up) (c .before .before .before .before .before .before .before .before .before .before .before .args .x) (c .before .before .before .before .find .result) (c .before .before .triple-get .result) (c .before .before .before .before .find .ensures) (c .before .before .triple-get .ensures .is) (omega arith) (shorts (c .before .before .before .before .before .before .before .before .before .before .before .args .vars .now)) (triples (c .before .before .before .before .before .before .before .before .before .before .before .args .olds .now)) (c .before .before .before .before .before .before .before .before .before .before .before .args .n) (c .before .before .before .before .before .before .before .before .before .before .before .args .k) (c .before .before .before .before .before .before .before .before .before .before .before .pre .sound .fitX) (c .before .before .before .before .before .before .before .before .before .before .before .pre .sound .fitC) (c .if2 .taken)
+returns c = held-same (words (c .before .before .before .before .before .before .before .before .before .before .before .args .t .now)) (longs (c .before .before .before .before .before .before .before .before .before .before .before .args .pos .now)) (triples (c .before .before .before .before .before .before .before .before .before .before .before .args .cells .now)) (c .before .before .before .before .before .before .before .before .before .before .before .pre .sound .up) (c .before .before .before .before .before .before .before .before .before .before .before .args .x) (c .before .before .before .before .find .result) (c .before .before .triple-get .result) (c .before .before .before .before .find .ensures) (c .before .before .triple-get .ensures .is) (omega arith) (shorts (c .before .before .before .before .before .before .before .before .before .before .before .args .vars .now)) (triples (c .before .before .before .before .before .before .before .before .before .before .before .args .olds .now)) (c .before .before .before .before .before .before .before .before .before .before .before .args .n) (c .before .before .before .before .before .before .before .before .before .before .before .args .k) (c .before .before .before .before .before .before .before .before .before .before .before .pre .sound) (c .if2 .taken)
 
 long-get-requires : tie.Need-long-get-requires
 long-get-requires c κs = c .before .before .before .before .before .before .before .before .before .before .before .pre .app
@@ -60,7 +60,7 @@ same-length-7 : tie.Need-same-length-7
 same-length-7 c = search needs
 
 returns-3 : tie.Need-returns-3
-returns-3 c = (step-none (triples (c .before .before .before .before .before .before .before .before .before .before .before .before .before .before .args .cells .now)) (shorts (c .before .before .before .before .before .before .before .before .before .before .before .before .before .before .args .vars .now)) (triples (c .before .before .before .before .before .before .before .before .before .before .before .before .before .before .args .olds .now)) (c .before .before .before .before .before .before .before .before .before .before .before .before .before .before .args .n) (c .before .before .before .before .before .before .before .before .before .before .before .before .before .before .pre .sound .up) (c .before .before .before .before .before .before .before .before .before .before .before .before .before .before .pre .sound .fitX) (c .before .before .before .before .before .before .before .before .before .before .before .before .before .before .pre .sound .fitC), subst (λ (r : Bool). Room (shorts (c .before .before .before .before .before .before .before .before .before .before .before .before .before .before .args .vars .now)) (triples (c .before .before .before .before .before .before .before .before .before .before .before .before .before .before .args .olds .now)) (c .before .before .before .before .before .before .before .before .before .before .before .before .before .before .args .n) r) (not-true (c .before .roomy .result) (c .if3 .taken)) (c .before .roomy .ensures))
+returns-3 c = (step-none (words (c .before .before .before .before .before .before .before .before .before .before .before .before .before .before .args .t .now)) (triples (c .before .before .before .before .before .before .before .before .before .before .before .before .before .before .args .cells .now)) (shorts (c .before .before .before .before .before .before .before .before .before .before .before .before .before .before .args .vars .now)) (triples (c .before .before .before .before .before .before .before .before .before .before .before .before .before .before .args .olds .now)) (c .before .before .before .before .before .before .before .before .before .before .before .before .before .before .args .n) (c .before .before .before .before .before .before .before .before .before .before .before .before .before .before .pre .sound), subst (λ (r : Bool). Room (shorts (c .before .before .before .before .before .before .before .before .before .before .before .before .before .before .args .vars .now)) (triples (c .before .before .before .before .before .before .before .before .before .before .before .before .before .before .args .olds .now)) (c .before .before .before .before .before .before .before .before .before .before .before .before .before .before .args .n) r) (not-true (c .before .roomy .result) (c .if3 .taken)) (c .before .roomy .ensures))
 
 add-m : tie.Need-add-m
 add-m c = let h = (subst (λ (r : Bool). Room (shorts (c .before .before .before .before .before .before .before .before .before .before .before .before .before .before .args .vars .now)) (triples (c .before .before .before .before .before .before .before .before .before .before .before .before .before .before .args .olds .now)) (c .before .before .before .before .before .before .before .before .before .before .before .before .before .before .args .n) r) (not-false (c .before .roomy .result) (c .if3 .left)) (c .before .roomy .ensures)) in omega (arith, h .0, length-shorts (c .before .before .before .before .before .before .before .before .before .before .before .before .before .before .args .vars .now))

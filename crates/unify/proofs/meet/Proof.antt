@@ -43,7 +43,7 @@ same-label-requires : tie.Need-same-label-requires Inv-loop μ-loop
 same-label-requires c κs = search needs
 
 returns : tie.Need-returns Inv-loop μ-loop
-returns c = (step-none (triples (c .before .before .before .before .before .before .before .before .before .before .args .cells .now)) (shorts (c .before .before .before .before .before .before .before .before .before .before .args .vars .now)) (triples (c .before .before .before .before .before .before .before .before .before .before .args .olds .now)) (c .before .before .before .before .before .before .before .before .before .before .args .n) (c .before .before .before .before .before .before .before .before .before .before .pre .sound .up) (c .before .before .before .before .before .before .before .before .before .before .pre .sound .fitX) (c .before .before .before .before .before .before .before .before .before .before .pre .sound .fitC), clash-label (words (c .before .before .before .before .before .before .before .before .before .before .args .t .now)) (triples (c .before .before .before .before .before .before .before .before .before .before .args .cells .now)) (c .before .before .before .before .before .before .before .before .before .before .args .p) (c .before .before .before .before .before .before .before .before .before .before .args .q) (c .before .before .before .before .num-of .result) (c .before .before .num-of2 .result) (label-is (words (c .before .before .before .before .before .before .before .before .before .before .args .t .now)) (c .before .before .before .before .before .before .before .before .before .before .args .p) (c .before .before .before .before .num-of .result) (c .before .before .before .before .before .peek .result) (c .before .before .before .before .num-of .ensures) (c .before .before .before .before .before .peek .ensures)) (label-is (words (c .before .before .before .before .before .before .before .before .before .before .args .t .now)) (c .before .before .before .before .before .before .before .before .before .before .args .q) (c .before .before .num-of2 .result) (c .before .before .before .peek2 .result) (c .before .before .num-of2 .ensures) (c .before .before .before .peek2 .ensures)) (decided-no (c .before .same-label .result) (not-true (c .before .same-label .result) (c .if1 .taken)) (c .before .same-label .ensures)))
+returns c = (step-none (words (c .before .before .before .before .before .before .before .before .before .before .args .t .now)) (triples (c .before .before .before .before .before .before .before .before .before .before .args .cells .now)) (shorts (c .before .before .before .before .before .before .before .before .before .before .args .vars .now)) (triples (c .before .before .before .before .before .before .before .before .before .before .args .olds .now)) (c .before .before .before .before .before .before .before .before .before .before .args .n) (c .before .before .before .before .before .before .before .before .before .before .pre .sound), clash-label (words (c .before .before .before .before .before .before .before .before .before .before .args .t .now)) (triples (c .before .before .before .before .before .before .before .before .before .before .args .cells .now)) (c .before .before .before .before .before .before .before .before .before .before .args .p) (c .before .before .before .before .before .before .before .before .before .before .args .q) (c .before .before .before .before .num-of .result) (c .before .before .num-of2 .result) (label-is (words (c .before .before .before .before .before .before .before .before .before .before .args .t .now)) (c .before .before .before .before .before .before .before .before .before .before .args .p) (c .before .before .before .before .num-of .result) (c .before .before .before .before .before .peek .result) (c .before .before .before .before .num-of .ensures) (c .before .before .before .before .before .peek .ensures)) (label-is (words (c .before .before .before .before .before .before .before .before .before .before .args .t .now)) (c .before .before .before .before .before .before .before .before .before .before .args .q) (c .before .before .num-of2 .result) (c .before .before .before .peek2 .result) (c .before .before .num-of2 .ensures) (c .before .before .before .peek2 .ensures)) (decided-no (c .before .same-label .result) (not-true (c .before .same-label .result) (c .if1 .taken)) (c .before .same-label .ensures)))
 
 add-pa : tie.Need-add-pa Inv-loop μ-loop
 add-pa c = omega (arith, c .before .before .before .before .before .before .before .before .before .before .pre .lowp)
