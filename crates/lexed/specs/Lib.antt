@@ -1,0 +1,4 @@
+pub mod Codes
+pub mod Encoded
+pub mod Table
+pub mod Once

@@ -1,0 +1,5 @@
+pub mod Spell
+pub mod Trie
+pub mod Names
+pub mod Grows
+pub mod Outcome
