@@ -1,0 +1,226 @@
+// Phrases of a text in its table of tokens: lists of variables, arguments, hidden lists and simple statements. A token is a
+// number of three bytes: its kind, and 256 times the number of its name.
+ghost use mathlib.Core.Path.{_≡_};
+ghost use Rattle.numbers.specs.Numbers.{triples};
+ghost use Rattle.phrases.specs.Codes.{Known, kindAt, numberAt};
+ghost use Rattle.phrases.specs.Phrases.{VariablesTo, ArgumentsTo, HiddenTo, CanEquate, CanName, SimpleAt};
+
+// A list of `count` names and the position behind it, or there is none.
+pub enum Phrase {
+    To { rest: usize, count: usize },
+    Odd,
+}
+
+// The four kinds of constraint atoms. Variables and labels are numbers of names; a constructor's arguments are `count` names,
+// at every second token from `first` on.
+pub enum Constraint {
+    True,
+    Fail,
+    Same {
+        left: usize,
+        right: usize,
+    },
+    Made {
+        var: usize,
+        label: usize,
+        first: usize,
+        count: usize,
+    },
+}
+
+// A simple statement and the position behind it; of a bracket, the position behind its opening; or there is none.
+pub enum Simple {
+    Atom {
+        kind: Constraint,
+        rest: usize,
+    },
+    Program {
+        name: usize,
+        first: usize,
+        count: usize,
+        rest: usize,
+    },
+    Bracket {
+        inside: usize,
+    },
+    Odd,
+}
+
+// The kind of the token at `i`; 255 past the end.
+pub fn kind_at(codes: &[u8], i: usize) -> usize
+    ensures { λ r. ⌜ r ≡ kindAt (triples (now (codes .entry))) i ⌝ }
+{
+    if i < numbers::triple_count(codes) {
+        return numbers::triple_get(codes, i) % 256;
+    }
+    255
+}
+
+// The number of the name of the token at `i`; 0 past the end.
+pub fn number_at(codes: &[u8], i: usize) -> usize
+    ensures { λ r. ⌜ r ≡ numberAt (triples (now (codes .entry))) i ⌝ }
+{
+    if i < numbers::triple_count(codes) {
+        return numbers::triple_get(codes, i) / 256;
+    }
+    0
+}
+
+// One variable or more, parted by commas.
+pub fn variables_end(codes: &[u8], at: usize) -> Phrase
+    ensures { λ r. ⌜ VariablesTo (triples (now (codes .entry))) at r ⌝ }
+{
+    let mut i = at;
+    let mut m = 0;
+    loop {
+        if kind_at(codes, i) != 2 {
+            return Phrase::Odd;
+        }
+        i += 1;
+        m += 1;
+        if kind_at(codes, i) != 5 {
+            return Phrase::To { rest: i, count: m };
+        }
+        i += 1;
+    }
+}
+
+// Arguments in brackets, or none at all.
+pub fn arguments_end(codes: &[u8], at: usize) -> Phrase
+    ensures { λ r. ⌜ ArgumentsTo (triples (now (codes .entry))) at r ⌝ }
+{
+    if kind_at(codes, at) != 3 {
+        return Phrase::To { rest: at, count: 0 };
+    }
+    let p = variables_end(codes, at + 1);
+    match p {
+        Phrase::To { rest, count } => {
+            if kind_at(codes, rest) != 4 {
+                return Phrase::Odd;
+            }
+            Phrase::To {
+                rest: rest + 1,
+                count,
+            }
+        }
+        Phrase::Odd => Phrase::Odd,
+    }
+}
+
+// A hidden list and its colon, or none at all: a variable that `=` does not follow begins one.
+pub fn hidden_end(codes: &[u8], at: usize) -> Phrase
+    ensures { λ r. ⌜ HiddenTo (triples (now (codes .entry))) at r ⌝ }
+{
+    if kind_at(codes, at) != 2 {
+        return Phrase::To { rest: at, count: 0 };
+    }
+    if kind_at(codes, at + 1) == 9 {
+        return Phrase::To { rest: at, count: 0 };
+    }
+    let p = variables_end(codes, at);
+    match p {
+        Phrase::To { rest, count } => {
+            if kind_at(codes, rest) != 7 {
+                return Phrase::Odd;
+            }
+            Phrase::To {
+                rest: rest + 1,
+                count,
+            }
+        }
+        Phrase::Odd => Phrase::Odd,
+    }
+}
+
+// The constraint that begins with the variable at `at` and an equals sign.
+fn equation_at(codes: &[u8], at: usize) -> Simple
+    requires { ⌜ CanEquate (triples (now codes)) at ⌝ }
+    ensures { λ r. ⌜ SimpleAt (triples (now (codes .entry))) at r ⌝ }
+{
+    let var = number_at(codes, at);
+    let i = at + 2;
+    let k = kind_at(codes, i);
+    if k == 2 {
+        let right = number_at(codes, i);
+        return Simple::Atom {
+            kind: Constraint::Same { left: var, right },
+            rest: i + 1,
+        };
+    }
+    if 2 < k {
+        return Simple::Odd;
+    }
+    let label = number_at(codes, i);
+    let p = arguments_end(codes, i + 1);
+    match p {
+        Phrase::To { rest, count } => Simple::Atom {
+            kind: Constraint::Made {
+                var,
+                label,
+                first: i + 2,
+                count,
+            },
+            rest,
+        },
+        Phrase::Odd => Simple::Odd,
+    }
+}
+
+// The constraint or program atom that begins with the name at `at`. The names `true` and `fail` have the numbers 4 and 8.
+fn named_at(codes: &[u8], at: usize) -> Simple
+    requires { ⌜ CanName (triples (now codes)) at ⌝ }
+    ensures { λ r. ⌜ SimpleAt (triples (now (codes .entry))) at r ⌝ }
+{
+    let name = number_at(codes, at);
+    let p = arguments_end(codes, at + 1);
+    match p {
+        Phrase::To { rest, count } => {
+            if name == 4 {
+                if count != 0 {
+                    return Simple::Odd;
+                }
+                return Simple::Atom {
+                    kind: Constraint::True,
+                    rest,
+                };
+            }
+            if name == 8 {
+                if count != 0 {
+                    return Simple::Odd;
+                }
+                return Simple::Atom {
+                    kind: Constraint::Fail,
+                    rest,
+                };
+            }
+            Simple::Program {
+                name,
+                first: at + 2,
+                count,
+                rest,
+            }
+        }
+        Phrase::Odd => Simple::Odd,
+    }
+}
+
+// The simple statement that begins at `at`.
+pub fn simple_at(codes: &[u8], at: usize) -> Simple
+    requires { ⌜ Known (triples (now codes)) ⌝ }
+    ensures { λ r. ⌜ SimpleAt (triples (now (codes .entry))) at r ⌝ }
+{
+    let k = kind_at(codes, at);
+    if k == 3 {
+        return Simple::Bracket { inside: at + 1 };
+    }
+    if k == 2 {
+        if kind_at(codes, at + 1) != 9 {
+            return Simple::Odd;
+        }
+        return equation_at(codes, at);
+    }
+    if k == 0 {
+        return named_at(codes, at);
+    }
+    Simple::Odd
+}
