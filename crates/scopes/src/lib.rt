@@ -1,0 +1,141 @@
+// What a variable's name stands for. Names are numbers; the name of a token's code is the code / 256. `binds` has two bytes for
+// each name: 0 where it is not bound, else 1 + the position of its last occurrence among the names bound, outermost first.
+ghost use mathlib.Core.Path.{_≡_};
+ghost use Prim.Native.Nat.{_/_, _<_, _≤_};
+ghost use lib.ListN.{length, getD, take};
+ghost use Rattle.numbers.specs.Numbers.{shorts, triples};
+ghost use Rattle.scopes.specs.Places.{among};
+ghost use Rattle.scopes.specs.Scopes.{CanEnter, Entered, CanLeave, Left};
+ghost use Rattle.scopes.specs.Contracts.{CanBind, BindTo, CanUnbind, Unbound, FoundAt};
+
+// The names of a list are bound, and are apart or one is there twice; or there was no room to save what was bound.
+pub enum Binding {
+    Apart,
+    Twice,
+    Full,
+}
+
+// A position, or there is none.
+pub enum Found {
+    At(usize),
+    Absent,
+}
+
+// The name of the token at `i`.
+fn name_at(codes: &[u8], i: usize) -> usize
+    requires { ⌜ i < length (triples (now codes)) ⌝ }
+    ensures { λ r. ⌜ r ≡ getD (triples (now (codes .entry))) i 0 / 256 ⌝ }
+{
+    numbers::triple_get(codes, i) / 256
+}
+
+// Gives the name at `at` the value `v`. Its old value is saved at `k`, and handed back.
+fn enter(codes: &[u8], at: usize, binds: &mut [u8], saves: &mut [u8], k: usize, v: usize) -> usize
+    requires { ⌜ CanEnter (triples (now codes)) at (shorts (now binds)) (shorts (now saves)) k v ⌝ }
+    ensures { λ r. ⌜ Entered (triples (now (codes .entry))) at (shorts (now (binds .entry))) (shorts (now (saves .entry))) k v (shorts (now (binds .exit))) (shorts (now (saves .exit))) r ⌝ }
+{
+    let id = name_at(codes, at);
+    let old = numbers::short_get(binds, id);
+    numbers::short_put(saves, k, old);
+    numbers::short_put(binds, id, v);
+    old
+}
+
+// Gives the name at `at` the value saved at `k`.
+fn leave(codes: &[u8], at: usize, binds: &mut [u8], saves: &[u8], k: usize)
+    requires { ⌜ CanLeave (triples (now codes)) at (shorts (now binds)) (shorts (now saves)) k ⌝ }
+    ensures { λ _. ⌜ Left (triples (now (codes .entry))) at (shorts (now (binds .entry))) (shorts (now (saves .entry))) k (shorts (now (binds .exit))) ⌝ }
+{
+    let id = name_at(codes, at);
+    let old = numbers::short_get(saves, k);
+    numbers::short_put(binds, id, old);
+}
+
+// Binds the `count` names at every second token from `first` on, behind `level` names that are bound already. The values that
+// they had are saved from `n` on.
+pub fn bind(
+    codes: &[u8],
+    first: usize,
+    count: usize,
+    binds: &mut [u8],
+    saves: &mut [u8],
+    n: usize,
+    level: usize,
+) -> Binding
+    requires { ⌜ CanBind (triples (now codes)) first count (shorts (now binds)) level ⌝ }
+    ensures { λ r. ⌜ BindTo (triples (now (codes .entry))) first count (shorts (now (binds .entry))) (shorts (now (saves .entry))) n level (shorts (now (binds .exit))) (shorts (now (saves .exit))) r ⌝ }
+{
+    let room = numbers::short_count(saves);
+    if room < n {
+        return Binding::Full;
+    }
+    if room - n < count {
+        return Binding::Full;
+    }
+    let mut j = 0;
+    let mut twice = false;
+    while j < count {
+        let old = enter(codes, first + 2 * j, binds, saves, n + j, level + j + 1);
+        j += 1;
+        if level < old {
+            twice = true;
+        }
+    }
+    if twice {
+        return Binding::Twice;
+    }
+    Binding::Apart
+}
+
+// Takes back what `bind` did, the last name first.
+pub fn unbind(codes: &[u8], first: usize, count: usize, binds: &mut [u8], saves: &[u8], n: usize)
+    requires { ⌜ CanUnbind (triples (now codes)) first count (shorts (now binds)) (shorts (now saves)) n ⌝ }
+    ensures { λ _. ⌜ Unbound (triples (now (codes .entry))) first count (shorts (now (binds .entry))) (shorts (now (saves .entry))) n (shorts (now (binds .exit))) ⌝ }
+{
+    let mut k = 0;
+    while k < count {
+        k += 1;
+        let j = count - k;
+        leave(codes, first + 2 * j, binds, saves, n + j);
+    }
+}
+
+// The value of the name `id`; 0 where the table has none.
+pub fn level_of(binds: &[u8], id: usize) -> usize
+    ensures { λ r. ⌜ r ≡ getD (shorts (now (binds .entry))) id 0 ⌝ }
+{
+    if id < numbers::short_count(binds) {
+        return numbers::short_get(binds, id);
+    }
+    0
+}
+
+// The first position of `id` among the first `k` numbers of `order`.
+pub fn number_of(order: &[u8], k: usize, id: usize) -> Found
+    requires { ⌜ k ≤ length (shorts (now order)) ⌝ }
+    ensures { λ r. ⌜ FoundAt (shorts (now (order .entry))) k id r ⌝ }
+{
+    let mut i = 0;
+    while i < k {
+        if numbers::short_get(order, i) == id {
+            return Found::At(i);
+        }
+        i += 1;
+    }
+    Found::Absent
+}
+
+// Whether `head` is among the first `k` numbers of `heads`.
+pub fn listed(heads: &[u8], k: usize, head: usize) -> bool
+    requires { ⌜ k ≤ length (triples (now heads)) ⌝ }
+    ensures { λ r. ⌜ r ≡ among head (take k (triples (now (heads .entry)))) ⌝ }
+{
+    let mut m = 0;
+    while m < k {
+        if numbers::triple_get(heads, m) == head {
+            return true;
+        }
+        m += 1;
+    }
+    false
+}
