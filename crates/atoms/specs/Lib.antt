@@ -1,0 +1,4 @@
+pub mod Parts
+pub mod Shapes
+pub mod Answers
+pub mod Subjects

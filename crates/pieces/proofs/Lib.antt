@@ -1,0 +1,10 @@
+pub mod Filling
+pub mod Simples
+pub mod Statements
+pub mod Scoping
+pub mod Clauses
+pub mod Threes
+pub mod Others
+pub mod Closed
+pub mod Choosing
+pub mod BracketThrees

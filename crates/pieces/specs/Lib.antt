@@ -1,0 +1,4 @@
+pub mod Worst
+pub mod Effect
+pub mod Slots
+pub mod Reads

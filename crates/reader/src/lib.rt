@@ -1,0 +1,552 @@
+// Statements read from a table of tokens and written as words: statement, bracket and clause call each other, with the
+// remaining tokens falling, and no deeper than brackets may nest. A text is known to be of the grammar before it is read
+// (crate grammar), so that brackets too deep, too many arguments or too many query variables end the reading at once: no
+// lower refusal can be due.
+ghost use mathlib.Core.Path.{_≡_};
+ghost use Prim.Native.Nat.{_<_};
+ghost use Rattle.numbers.specs.Numbers.{shorts, triples};
+ghost use Rattle.words.specs.Words.{words};
+ghost use Rattle.phrases.specs.Codes.{opOf};
+ghost use Rattle.pieces.specs.Reads.{a-statement, a-simple, a-bracket, a-clause, some-others, CanRead};
+ghost use Rattle.reader.specs.Binding.{Answer, twiceNo, Operates, Mixes, CanClause};
+use emits::Emitted;
+use phrases::Phrase;
+use phrases::Simple;
+use pieces::Read;
+use scopes::Binding;
+use words::Sort;
+use words::Word;
+
+// The refusal that a hidden list gives: 4 for a name that is there twice, 8 for none; 0 where there was no room to bind it.
+fn twice(b: Binding) -> usize
+    ensures { λ r. ⌜ r ≡ twiceNo b ⌝ }
+{
+    match b {
+        Binding::Apart => 8,
+        Binding::Twice => 4,
+        Binding::Full => 0,
+    }
+}
+
+// Whether a kind is that of an operator.
+fn operates(kind: usize) -> bool
+    ensures { λ r. ⌜ Operates kind r ⌝ }
+{
+    if kind < 11 {
+        return false;
+    }
+    if 13 < kind {
+        return false;
+    }
+    true
+}
+
+// The refusal that a clause's operator gives: 7 where it is not that of the first clause.
+fn mixes(kind: usize, first: usize) -> usize
+    ensures { λ r. ⌜ Mixes kind first r ⌝ }
+{
+    if kind == first {
+        return 8;
+    }
+    7
+}
+
+// Simple statements joined by commas. Before each is a slot for the composition that a comma behind it makes.
+pub fn statement(
+    codes: &[u8],
+    heads: &[u8],
+    query: bool,
+    out: &mut [u8],
+    binds: &mut [u8],
+    saves: &mut [u8],
+    order: &mut [u8],
+    at: usize,
+    k: usize,
+    q: usize,
+    level: usize,
+    depth: usize,
+) -> Read
+    requires { ⌜ CanRead (triples (now codes)) (shorts (now binds)) (shorts (now saves)) (shorts (now order)) (triples (now heads)) (words (now out)) at k q level ⌝ }
+    ensures { λ r. ⌜ Answer a-statement query (triples (now (codes .entry))) (shorts (now (binds .entry))) (shorts (now (saves .entry))) (shorts (now (order .entry))) (triples (now (heads .entry))) (words (now (out .entry))) at k q level depth (shorts (now (binds .exit))) (shorts (now (saves .exit))) (shorts (now (order .exit))) (words (now (out .exit))) r ⌝ }
+{
+    let mut i = at;
+    let mut j = k;
+    let mut p = q;
+    let mut f = 8;
+    let mut c = 0;
+    loop {
+        if !emits::emit(out, j, Word::Bad) {
+            return Read::Full;
+        }
+        let s = simple(
+            codes,
+            heads,
+            query,
+            out,
+            binds,
+            saves,
+            order,
+            i,
+            j + 1,
+            p,
+            level,
+            depth,
+        );
+        match s {
+            Read::Done {
+                at: a,
+                out: o,
+                known,
+                fault,
+            } => {
+                let low = pieces::lower(f, fault);
+                if phrases::kind_at(codes, a) != 5 {
+                    let e = emits::ends(out, o, c);
+                    match e {
+                        Emitted::To(z) => {
+                            return Read::Done {
+                                at: a,
+                                out: z,
+                                known,
+                                fault: low,
+                            };
+                        }
+                        Emitted::Full => {
+                            return Read::Full;
+                        }
+                    }
+                }
+                words::put(out, j, Word::Inner(Sort::Comp));
+                i = a + 1;
+                j = o;
+                p = known;
+                f = low;
+                c += 1;
+            }
+            Read::Three => {
+                return Read::Three;
+            }
+            Read::Odd => {
+                return Read::Odd;
+            }
+            Read::Full => {
+                return Read::Full;
+            }
+        }
+    }
+}
+
+// A simple statement: an atom, or a bracket, which may not stand in 32 others.
+fn simple(
+    codes: &[u8],
+    heads: &[u8],
+    query: bool,
+    out: &mut [u8],
+    binds: &mut [u8],
+    saves: &mut [u8],
+    order: &mut [u8],
+    at: usize,
+    k: usize,
+    q: usize,
+    level: usize,
+    depth: usize,
+) -> Read
+    requires { ⌜ CanRead (triples (now codes)) (shorts (now binds)) (shorts (now saves)) (shorts (now order)) (triples (now heads)) (words (now out)) at k q level ⌝ }
+    ensures { λ r. ⌜ Answer a-simple query (triples (now (codes .entry))) (shorts (now (binds .entry))) (shorts (now (saves .entry))) (shorts (now (order .entry))) (triples (now (heads .entry))) (words (now (out .entry))) at k q level depth (shorts (now (binds .exit))) (shorts (now (saves .exit))) (shorts (now (order .exit))) (words (now (out .exit))) r ⌝ }
+{
+    let s = phrases::simple_at(codes, at);
+    match s {
+        Simple::Atom { kind, rest } => {
+            atoms::constraint(codes, query, out, binds, order, kind, rest, k, q)
+        }
+        Simple::Program {
+            name,
+            first,
+            count,
+            rest,
+        } => atoms::program(
+            codes,
+            heads,
+            query,
+            out,
+            binds,
+            order,
+            name,
+            first,
+            count,
+            rest,
+            k,
+            q,
+        ),
+        Simple::Bracket { inside } => {
+            if 32 <= depth {
+                return Read::Three;
+            }
+            let b = bracket(
+                codes,
+                heads,
+                query,
+                out,
+                binds,
+                saves,
+                order,
+                inside,
+                k,
+                q,
+                level,
+                depth + 1,
+            );
+            match b {
+                Read::Done {
+                    at: a,
+                    out: o,
+                    known,
+                    fault,
+                } => {
+                    if phrases::kind_at(codes, a) != 4 {
+                        return Read::Odd;
+                    }
+                    Read::Done {
+                        at: a + 1,
+                        out: o,
+                        known,
+                        fault,
+                    }
+                }
+                Read::Three => Read::Three,
+                Read::Odd => Read::Odd,
+                Read::Full => Read::Full,
+            }
+        }
+        Simple::Odd => Read::Odd,
+    }
+}
+
+// What stands between a bracket's signs: a hidden list or none, a statement, and then an operator or not. Three slots are kept
+// for what it turns out to be.
+fn bracket(
+    codes: &[u8],
+    heads: &[u8],
+    query: bool,
+    out: &mut [u8],
+    binds: &mut [u8],
+    saves: &mut [u8],
+    order: &mut [u8],
+    at: usize,
+    k: usize,
+    q: usize,
+    level: usize,
+    depth: usize,
+) -> Read
+    requires { ⌜ CanRead (triples (now codes)) (shorts (now binds)) (shorts (now saves)) (shorts (now order)) (triples (now heads)) (words (now out)) at k q level ⌝ }
+    ensures { λ r. ⌜ Answer a-bracket query (triples (now (codes .entry))) (shorts (now (binds .entry))) (shorts (now (saves .entry))) (shorts (now (order .entry))) (triples (now (heads .entry))) (words (now (out .entry))) at k q level depth (shorts (now (binds .exit))) (shorts (now (saves .exit))) (shorts (now (order .exit))) (words (now (out .exit))) r ⌝ }
+{
+    let p = phrases::hidden_end(codes, at);
+    match p {
+        Phrase::To { rest, count } => {
+            if !pieces::slots(out, k) {
+                return Read::Full;
+            }
+            let g = twice(scopes::bind(codes, at, count, binds, saves, level, level));
+            if g == 0 {
+                return Read::Full;
+            }
+            let s = statement(
+                codes,
+                heads,
+                query,
+                out,
+                binds,
+                saves,
+                order,
+                rest,
+                k + 3,
+                q,
+                level + count,
+                depth,
+            );
+            match s {
+                Read::Done {
+                    at: a,
+                    out: o,
+                    known,
+                    fault,
+                } => {
+                    let op = phrases::kind_at(codes, a);
+                    if !operates(op) {
+                        scopes::unbind(codes, at, count, binds, saves, level);
+                        if count == 0 {
+                            return Read::Done {
+                                at: a,
+                                out: o,
+                                known,
+                                fault,
+                            };
+                        }
+                        pieces::fill_hide(out, k, count);
+                        if !emits::emit(out, o, Word::End) {
+                            return Read::Full;
+                        }
+                        let low = pieces::lower(g, fault);
+                        return Read::Done {
+                            at: a,
+                            out: o + 1,
+                            known,
+                            fault: low,
+                        };
+                    }
+                    let t = statement(
+                        codes,
+                        heads,
+                        query,
+                        out,
+                        binds,
+                        saves,
+                        order,
+                        a + 1,
+                        o,
+                        known,
+                        level + count,
+                        depth,
+                    );
+                    match t {
+                        Read::Done {
+                            at: b,
+                            out: u,
+                            known: more,
+                            fault: then,
+                        } => {
+                            if !emits::emit(out, u, Word::End) {
+                                return Read::Full;
+                            }
+                            scopes::unbind(codes, at, count, binds, saves, level);
+                            pieces::fill_choice(out, k, op, count);
+                            let both = pieces::lower(fault, then);
+                            let own = pieces::lower(g, both);
+                            let r = others(
+                                codes,
+                                heads,
+                                query,
+                                out,
+                                binds,
+                                saves,
+                                order,
+                                b,
+                                u + 1,
+                                more,
+                                level,
+                                depth,
+                                op,
+                            );
+                            match r {
+                                Read::Done {
+                                    at: end,
+                                    out: w,
+                                    known: all,
+                                    fault: rest_fault,
+                                } => {
+                                    if !emits::emit(out, w, Word::End) {
+                                        return Read::Full;
+                                    }
+                                    let low = pieces::lower(own, rest_fault);
+                                    Read::Done {
+                                        at: end,
+                                        out: w + 1,
+                                        known: all,
+                                        fault: low,
+                                    }
+                                }
+                                Read::Three => Read::Three,
+                                Read::Odd => Read::Odd,
+                                Read::Full => Read::Full,
+                            }
+                        }
+                        Read::Three => Read::Three,
+                        Read::Odd => Read::Odd,
+                        Read::Full => Read::Full,
+                    }
+                }
+                Read::Three => Read::Three,
+                Read::Odd => Read::Odd,
+                Read::Full => Read::Full,
+            }
+        }
+        Phrase::Odd => Read::Odd,
+    }
+}
+
+// The other clauses of a choice, each behind a `;`.
+fn others(
+    codes: &[u8],
+    heads: &[u8],
+    query: bool,
+    out: &mut [u8],
+    binds: &mut [u8],
+    saves: &mut [u8],
+    order: &mut [u8],
+    at: usize,
+    k: usize,
+    q: usize,
+    level: usize,
+    depth: usize,
+    kind: usize,
+) -> Read
+    requires { ⌜ CanClause (triples (now codes)) (shorts (now binds)) (shorts (now saves)) (shorts (now order)) (triples (now heads)) (words (now out)) at k q level kind ⌝ }
+    ensures { λ r. ⌜ Answer (some-others (opOf kind)) query (triples (now (codes .entry))) (shorts (now (binds .entry))) (shorts (now (saves .entry))) (shorts (now (order .entry))) (triples (now (heads .entry))) (words (now (out .entry))) at k q level depth (shorts (now (binds .exit))) (shorts (now (saves .exit))) (shorts (now (order .exit))) (words (now (out .exit))) r ⌝ }
+{
+    let mut i = at;
+    let mut j = k;
+    let mut p = q;
+    let mut f = 8;
+    loop {
+        if phrases::kind_at(codes, i) != 10 {
+            return Read::Done {
+                at: i,
+                out: j,
+                known: p,
+                fault: f,
+            };
+        }
+        let c = clause(
+            codes,
+            heads,
+            query,
+            out,
+            binds,
+            saves,
+            order,
+            i + 1,
+            j,
+            p,
+            level,
+            depth,
+            kind,
+        );
+        match c {
+            Read::Done {
+                at: a,
+                out: o,
+                known,
+                fault,
+            } => {
+                f = pieces::lower(f, fault);
+                i = a;
+                j = o;
+                p = known;
+            }
+            Read::Three => {
+                return Read::Three;
+            }
+            Read::Odd => {
+                return Read::Odd;
+            }
+            Read::Full => {
+                return Read::Full;
+            }
+        }
+    }
+}
+
+// A clause behind the first: a hidden list or none, a guard, an operator and a body.
+fn clause(
+    codes: &[u8],
+    heads: &[u8],
+    query: bool,
+    out: &mut [u8],
+    binds: &mut [u8],
+    saves: &mut [u8],
+    order: &mut [u8],
+    at: usize,
+    k: usize,
+    q: usize,
+    level: usize,
+    depth: usize,
+    kind: usize,
+) -> Read
+    requires { ⌜ CanClause (triples (now codes)) (shorts (now binds)) (shorts (now saves)) (shorts (now order)) (triples (now heads)) (words (now out)) at k q level kind ⌝ }
+    ensures { λ r. ⌜ Answer (a-clause (opOf kind)) query (triples (now (codes .entry))) (shorts (now (binds .entry))) (shorts (now (saves .entry))) (shorts (now (order .entry))) (triples (now (heads .entry))) (words (now (out .entry))) at k q level depth (shorts (now (binds .exit))) (shorts (now (saves .exit))) (shorts (now (order .exit))) (words (now (out .exit))) r ⌝ }
+{
+    let p = phrases::hidden_end(codes, at);
+    match p {
+        Phrase::To { rest, count } => {
+            if !pieces::open_clause(out, k, count) {
+                return Read::Full;
+            }
+            let g = twice(scopes::bind(codes, at, count, binds, saves, level, level));
+            if g == 0 {
+                return Read::Full;
+            }
+            let s = statement(
+                codes,
+                heads,
+                query,
+                out,
+                binds,
+                saves,
+                order,
+                rest,
+                k + 2,
+                q,
+                level + count,
+                depth,
+            );
+            match s {
+                Read::Done {
+                    at: a,
+                    out: o,
+                    known,
+                    fault,
+                } => {
+                    let op = phrases::kind_at(codes, a);
+                    if !operates(op) {
+                        return Read::Odd;
+                    }
+                    let t = statement(
+                        codes,
+                        heads,
+                        query,
+                        out,
+                        binds,
+                        saves,
+                        order,
+                        a + 1,
+                        o,
+                        known,
+                        level + count,
+                        depth,
+                    );
+                    match t {
+                        Read::Done {
+                            at: b,
+                            out: u,
+                            known: more,
+                            fault: then,
+                        } => {
+                            if !emits::emit(out, u, Word::End) {
+                                return Read::Full;
+                            }
+                            scopes::unbind(codes, at, count, binds, saves, level);
+                            let both = pieces::lower(fault, then);
+                            let own = pieces::lower(g, both);
+                            let m = mixes(op, kind);
+                            let low = pieces::lower(own, m);
+                            Read::Done {
+                                at: b,
+                                out: u + 1,
+                                known: more,
+                                fault: low,
+                            }
+                        }
+                        Read::Three => Read::Three,
+                        Read::Odd => Read::Odd,
+                        Read::Full => Read::Full,
+                    }
+                }
+                Read::Three => Read::Three,
+                Read::Odd => Read::Odd,
+                Read::Full => Read::Full,
+            }
+        }
+        Phrase::Odd => Read::Odd,
+    }
+}
