@@ -1,3 +1,2 @@
-pub mod Climb
 pub mod Tables
 pub mod Linking

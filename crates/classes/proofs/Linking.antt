@@ -10,11 +10,11 @@ use Rattle.numbers.specs.Stored.{Stored, stored-same, stored-other}
 use Rattle.constraint.specs.Constraint.{Asg, In}
 use Rattle.constraint.specs.Solve.{Bnd, free}
 use Rattle.constraint.proofs.FormSteps.{Holds}
-use Rattle.classes.specs.Cells.{next, par, key, fuel, room, climb, rep, Up, Found}
-use Rattle.classes.specs.Trail.{Grown, Saved, CanSave, grown-none, grown-then, grown-saved, grows-link, grows-same}
+use Rattle.cells.specs.Cells.{next, par, key, fuel, room, climb, rep, Up, Found}
+use Rattle.cells.specs.Trail.{Grown, Saved, CanSave, grown-none, grown-then, grown-saved, grows-link, grows-same}
 use Rattle.classes.specs.Weights.{weights, weight-link, weight-root, weight-kind, weights-stored}
 use Rattle.classes.specs.Means.{bound, Fits, Pend, Apps, OldApps, OldVars, Within, OldIn, CanJoin, Joined, CanHang}
-use Rattle.classes.proofs.Climb.{next-root, next-link, rep-root}
+use Rattle.cells.proofs.Climb.{next-root, next-link, rep-root}
 use Rattle.classes.proofs.Tables.{cell-cases, up-link, up-root, fits-rep, fits-holds, fits-same, fits-link, bound-yes, bound-no}
 
 -- one more entry of the trail is one more binding to ask

@@ -11,9 +11,9 @@ use Rattle.constraint.specs.Constraint.{Asg}
 use Rattle.constraint.specs.Solve.{Bnd, free, fun, to}
 use Rattle.constraint.proofs.Form.{Form, build, Solves}
 use Rattle.constraint.proofs.FormSteps.{Holds, holds-of, build-of, merge-sem, put-sem}
-use Rattle.classes.specs.Cells.{next, par, key, fuel, room, rep, Up}
+use Rattle.cells.specs.Cells.{next, par, key, fuel, room, rep, Up}
 use Rattle.classes.specs.Means.{bound, Fits, Pend, Apps}
-use Rattle.classes.proofs.Climb.{next-link, next-root, rep-root, rep-idem, rep-same, rep-link, root-rep, linked}
+use Rattle.cells.proofs.Climb.{next-link, next-root, rep-root, rep-idem, rep-same, rep-link, root-rep, linked}
 
 -- a cell is what was stored, or what it was
 pub cell-cases : {T T′ : List ℕ} {a c : ℕ} (P : ℕ → ℕ → Type 0) → Stored T a c T′ → a < length T → P a c → ((x : ℕ) → (x ≡ a → ⊥) → P x (getD T x 0)) → (x : ℕ) → P x (getD T′ x 0)

@@ -1,4 +1,2 @@
-pub mod Cells
-pub mod Trail
 pub mod Weights
 pub mod Means

@@ -10,8 +10,8 @@ use Rattle.constraint.specs.Constraint.{Asg, In}
 use Rattle.constraint.specs.Solve.{Bnd, free}
 use Rattle.constraint.proofs.Form.{build}
 use Rattle.constraint.proofs.FormSteps.{Holds}
-use Rattle.classes.specs.Cells.{rep, par, key, Up}
-use Rattle.classes.specs.Trail.{Grown}
+use Rattle.cells.specs.Cells.{rep, par, key, Up}
+use Rattle.cells.specs.Trail.{Grown}
 use Rattle.classes.specs.Weights.{weights}
 
 -- what a cell is bound to

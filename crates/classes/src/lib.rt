@@ -1,51 +1,10 @@
 // Classes of variables in lent bytes: a table of cells with links to representatives, joined by rank without shortening
 // paths, so that every change can be taken back from a trail.
 ghost use mathlib.Core.Path.{_≡_};
-ghost use Prim.Native.Nat.{_-_, _<_};
-ghost use lib.ListN.{length, getD};
+ghost use Prim.Native.Nat.{_<_};
+ghost use lib.ListN.{length};
 ghost use Rattle.numbers.specs.Numbers.{shorts, triples};
-ghost use Rattle.classes.specs.Cells.{Found, CanFind};
-ghost use Rattle.classes.specs.Trail.{rewind, Saved, CanSave, CanUndo};
 ghost use Rattle.classes.specs.Means.{CanJoin, Joined, CanHang, Order};
-
-// The representative of `x`.
-pub fn find(cells: &[u8], x: usize) -> usize
-    requires { ⌜ CanFind (triples (now cells)) x ⌝ }
-    ensures { λ r. ⌜ Found (triples (now (cells .entry))) x r ⌝ }
-{
-    let mut y = x;
-    let mut c = numbers::triple_get(cells, x);
-    while c % 4 == 1 {
-        y = c / 256;
-        c = numbers::triple_get(cells, y);
-    }
-    y
-}
-
-// Makes `c` the cell of `x`; the trail's entry `n` keeps what it was.
-pub fn save(cells: &mut [u8], vars: &mut [u8], olds: &mut [u8], n: usize, x: usize, c: usize)
-    requires { ⌜ CanSave (triples (now cells)) (shorts (now vars)) (triples (now olds)) n x c ⌝ }
-    ensures { λ _. ⌜ Saved (triples (now (cells .entry))) (shorts (now (vars .entry))) (triples (now (olds .entry))) n x c (triples (now (cells .exit))) (shorts (now (vars .exit))) (triples (now (olds .exit))) ⌝ }
-{
-    let old = numbers::triple_get(cells, x);
-    numbers::short_put(vars, n, x);
-    numbers::triple_put(olds, n, old);
-    numbers::triple_put(cells, x, c);
-}
-
-// Takes the changes back that the trail has from `m` on up to `n`, the newest first.
-pub fn undo(cells: &mut [u8], vars: &[u8], olds: &[u8], n: usize, m: usize)
-    requires { ⌜ CanUndo (triples (now cells)) (shorts (now vars)) (triples (now olds)) n m ⌝ }
-    ensures { λ _. ⌜ (triples (now (cells .exit)) ≡ rewind (n - m) m (triples (now (cells .entry))) (shorts (now (vars .entry))) (triples (now (olds .entry)))) × (length (triples (now (cells .exit))) ≡ length (triples (now (cells .entry)))) ⌝ }
-{
-    let mut i = n;
-    while m < i {
-        i -= 1;
-        let x = numbers::short_get(vars, i);
-        let o = numbers::triple_get(olds, i);
-        numbers::triple_put(cells, x, o);
-    }
-}
 
 // Whether `a` goes below `b`: by rank, then by number.
 pub fn below(cells: &[u8], a: usize, b: usize) -> bool
@@ -83,14 +42,14 @@ pub fn hang(
     let ra = numbers::triple_get(cells, a) / 4 % 64;
     let cb = numbers::triple_get(cells, b);
     let rb = cb / 4 % 64;
-    save(cells, vars, olds, n, a, 1 + ra * 4 + b * 256);
+    cells::save(cells, vars, olds, n, a, 1 + ra * 4 + b * 256);
     if ra < rb {
         return one;
     }
     if 62 < rb {
         return one;
     }
-    save(cells, vars, olds, one, b, cb + 4);
+    cells::save(cells, vars, olds, one, b, cb + 4);
     two
 }
 
@@ -106,8 +65,8 @@ pub fn join(
     requires { ⌜ CanJoin (triples (now cells)) (shorts (now vars)) (triples (now olds)) n x y ⌝ }
     ensures { λ r. ⌜ Joined (triples (now (cells .entry))) (shorts (now (vars .entry))) (triples (now (olds .entry))) n x y (triples (now (cells .exit))) (shorts (now (vars .exit))) (triples (now (olds .exit))) r ⌝ }
 {
-    let a = find(cells, x);
-    let b = find(cells, y);
+    let a = cells::find(cells, x);
+    let b = cells::find(cells, y);
     if a == b {
         return n;
     }

@@ -10,7 +10,7 @@ use Rattle.words.specs.declared.Word.{Word}
 use Rattle.words.specs.declared.Word.the-variants.{End, Free, Level, Num, Place, Inner, Bad}
 use Rattle.words.specs.declared.Sort.{Sort}
 use Rattle.words.specs.declared.Sort.the-variants.{True, Fail, Eq, App}
-use Rattle.unify.specs.Read.{varOf, numOf, argsOf, told, starts, begun}
+use Rattle.fields.specs.Read.{varOf, numOf, argsOf, told, starts, begun}
 
 -- a constraint whose label is a number
 pub data Coded : Type 0 where

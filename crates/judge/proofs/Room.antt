@@ -6,11 +6,13 @@ use Prim.Native.Nat.{ℕ, _+_, _*_, _≤_}
 use native.Mathlib.Omega.{arith}
 use lib.ListN.{length}
 use Rattle.words.specs.declared.Word.{Word}
-use Rattle.unify.specs.Reach.{reach-cells, reach-words}
+use Rattle.trails.specs.Reach.{reach-cells, reach-words}
 use Rattle.tells.specs.Tells.{appsIn}
-use Rattle.judge.specs.Judge.{Sizes, Roomy, Judgement}
-use Rattle.judge.specs.declared.Judged.{Judged}
-use Rattle.judge.specs.declared.Judged.the-variants.{Unfit, NoSpace, Silent, Loudly}
+use Rattle.fits.specs.Fits.{Sizes}
+use Rattle.judge.specs.Judgement.{Judgement}
+use Rattle.verdicts.specs.Verdicts.{Roomy}
+use Rattle.verdicts.specs.declared.Judged.{Judged}
+use Rattle.verdicts.specs.declared.Judged.the-variants.{Unfit, NoSpace, Silent, Loudly}
 
 pub answered : (W : List Word) (from mid to : ℕ) (L P T X C M K D : List ℕ) (r : Judged) → Judgement W from mid to L P T X C M K D r → Sizes W from mid to L P T M K D → Roomy W P T X C (appsIn W from to) → (r ≡ Silent) ⊎ (r ≡ Loudly)
 answered W from mid to L P T X C M K D Unfit j z q = absurd (j .fits z)

@@ -1,1 +1,1 @@
-pub mod Judge
+pub mod Judgement

@@ -1,3 +1,2 @@
 pub mod Verdict
-pub mod Owning
 pub mod Quietness

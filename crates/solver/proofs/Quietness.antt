@@ -12,25 +12,25 @@ use Rattle.constraint.specs.Solve.{Bnd, free, fun}
 use Rattle.constraint.proofs.Form.{Form, at, Solves, Ranked, Of}
 use Rattle.constraint.proofs.Entail.{Par, quiet-if, reach, quiet-keeps, quiet-apart}
 use Rattle.words.specs.declared.Word.{Word}
-use Rattle.classes.specs.Cells.{rep, par, Up}
-use Rattle.classes.specs.Trail.{rewind, rewind-at, CanUndo}
+use Rattle.cells.specs.Cells.{rep, par, Up}
+use Rattle.cells.specs.Trail.{rewind, rewind-at, CanUndo}
 use Rattle.classes.specs.Means.{bound, Fits}
-use Rattle.classes.proofs.Climb.{rep-root, next-root, root-rep}
+use Rattle.cells.proofs.Climb.{rep-root, next-root, root-rep}
 use Rattle.classes.proofs.Tables.{formOf, fits-form, bound-yes, bound-no}
 use Rattle.classes.proofs.Linking.{root-cell}
-use Rattle.unify.specs.Read.{termAt, tabOf}
+use Rattle.fields.specs.Read.{termAt, tabOf}
 use Rattle.tells.specs.Tells.{State, Means, Left}
-use Rattle.cycles.specs.Search.{Acyclic, Cyclic}
-use Rattle.solver.specs.Owners.{Cand, Outer, Alone, Owning, Loud, Marks, Looking}
+use Rattle.explores.specs.Search.{Acyclic, Cyclic}
+use Rattle.owners.specs.Owners.{Cand, Outer, Alone, Owning, Loud, Marks, Looking}
 use Rattle.solver.specs.Solver.{Marking, Before, Calmed, Kept}
-use Rattle.unify.specs.Reach.{varsOf}
-use Rattle.unify.specs.Steps.{Filled}
-use Rattle.unify.proofs.Trails.{vars-of, filled-short}
+use Rattle.trails.specs.Reach.{varsOf}
+use Rattle.trails.specs.Steps.{Filled}
+use Rattle.trails.proofs.Trails.{vars-of, filled-short}
 use Rattle.solver.specs.declared.Calm.the-variants.{Silent, Loudly, NoSpace}
-use Rattle.solver.specs.declared.Owned.{Owned}
-use Rattle.solver.specs.declared.Owned.the-variants.{Apart, Joint, NoPlace}
+use Rattle.owners.specs.declared.Owned.{Owned}
+use Rattle.owners.specs.declared.Owned.the-variants.{Apart, Joint, NoPlace}
 use Rattle.solver.proofs.Verdict.{ranked, form-of}
-use Rattle.solver.proofs.Owning.{four, marks-of}
+use Rattle.owners.proofs.Owning.{four, marks-of}
 
 -- an application is no unbound class
 term-bound : (lab : ℕ → Label) (W : List Word) (P : List ℕ) (k : ℕ) → tabOf lab W P k ≡ free → ⊥

@@ -13,14 +13,14 @@ use Rattle.constraint.specs.Solve.{Bnd, free, fun}
 use Rattle.constraint.proofs.Form.{Form, at, Solves, Below, Ranked, Of, build}
 use Rattle.constraint.proofs.Forms.{solution, solution-solves}
 use Rattle.words.specs.declared.Word.{Word}
-use Rattle.classes.specs.Cells.{rep, par, Up}
+use Rattle.cells.specs.Cells.{rep, par, Up}
 use Rattle.classes.specs.Means.{bound, Fits, Apps, OldVars, OldIn}
-use Rattle.classes.proofs.Climb.{rep-root, next-root}
+use Rattle.cells.proofs.Climb.{rep-root, next-root}
 use Rattle.classes.proofs.Tables.{formOf, fits-form, bound-yes, bound-no}
-use Rattle.unify.specs.Read.{argsAt, labelAt, termAt, tabOf, Vars}
-use Rattle.unify.specs.Steps.{Sound}
+use Rattle.fields.specs.Read.{argsAt, labelAt, termAt, tabOf, Vars}
+use Rattle.trails.specs.Steps.{Sound}
 use Rattle.tells.specs.Tells.{State, Means}
-use Rattle.cycles.specs.Search.{cellOf, Acyclic, Cyclic, Tested}
+use Rattle.explores.specs.Search.{cellOf, Acyclic, Cyclic, Tested}
 use Rattle.solver.specs.Solver.{Solved}
 
 below-term : (lab : ℕ → Label) (W : List Word) (P : List ℕ) (k : ℕ) (rk : ℕ → ℕ) (r : ℕ) → ((y : ℕ) → In y (argsAt W (getD P k 0)) → rk y < r) → Below rk r (tabOf lab W P k)

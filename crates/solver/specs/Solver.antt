@@ -9,11 +9,11 @@ use Rattle.numbers.specs.Decides.{Decides}
 use Rattle.constraint.specs.Tree.{Label}
 use Rattle.constraint.specs.Constraint.{Asg, Store, Sats, Satisfiable, Quiet, In, Fresh}
 use Rattle.words.specs.declared.Word.{Word}
-use Rattle.unify.specs.Read.{Distinct}
-use Rattle.unify.specs.Steps.{Short}
+use Rattle.fields.specs.Read.{Distinct}
+use Rattle.trails.specs.Steps.{Short}
 use Rattle.tells.specs.Tells.{State, Means, Left}
-use Rattle.cycles.specs.Search.{Fitting, Tested, Acyclic}
-use Rattle.solver.specs.Owners.{Outer, CanLookAll}
+use Rattle.explores.specs.Search.{Fitting, Tested, Acyclic}
+use Rattle.owners.specs.Owners.{Outer, CanLookAll}
 use Rattle.solver.specs.declared.Calm.{Calm}
 use Rattle.solver.specs.declared.Calm.the-variants.{Silent, Loudly, NoSpace}
 

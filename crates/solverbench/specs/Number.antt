@@ -1,8 +1,8 @@
 -- The answers of `judge` as numbers. Assumes nothing.
 use mathlib.Core.Path.{_≡_}
 use Prim.Native.Nat.{ℕ}
-use Rattle.judge.specs.declared.Judged.{Judged}
-use Rattle.judge.specs.declared.Judged.the-variants.{Unfit, NoSpace, Silent, Loudly}
+use Rattle.verdicts.specs.declared.Judged.{Judged}
+use Rattle.verdicts.specs.declared.Judged.the-variants.{Unfit, NoSpace, Silent, Loudly}
 
 abbrev pub number : Judged → ℕ
 number Unfit = 0

@@ -2,9 +2,9 @@
 ghost use mathlib.Core.Path.{_≡_};
 ghost use Rattle.numbers.specs.Numbers.{shorts, triples, longs};
 ghost use Rattle.words.specs.Words.{words};
-ghost use Rattle.judge.specs.Judge.{Judgement};
+ghost use Rattle.judge.specs.Judgement.{Judgement};
 ghost use Rattle.solverbench.specs.Number.{number, Numbered};
-use judge::Judged;
+use verdicts::Judged;
 
 // The number of an answer.
 fn number_of(r: Judged) -> u32

@@ -9,7 +9,8 @@ use lib.ListN.{length, getD, drop, length-drop}
 use lib.Seq.{getD-drop, drop-drop}
 use Rattle.words.specs.declared.Word.{Word}
 use Rattle.words.specs.declared.Word.the-variants.{Bad}
-use Rattle.tells.specs.Tells.{beginsOf, appOf, appsOf, appsAt, appsIn}
+use Rattle.begins.specs.Begins.{beginsOf}
+use Rattle.tells.specs.Tells.{appOf, appsOf, appsAt, appsIn}
 
 pub app-one : (W : List Word) (i b : ℕ) → b ≡ beginsOf (getD W i Bad) → b ≡ 3 → appsAt W i ≡ 1
 unfolding appOf

@@ -1,4 +1,3 @@
-pub mod Taking
 pub mod Ranges
 pub mod Counts
 pub mod Telling

@@ -16,8 +16,9 @@ use Rattle.words.specs.declared.Word.{Word}
 use Rattle.words.specs.declared.Word.the-variants.{End, Free, Level, Num, Place, Inner, Bad}
 use Rattle.words.specs.declared.Sort.{Sort}
 use Rattle.words.specs.declared.Sort.the-variants.{Locals, Store as StoreSort, True, Fail, Eq, App, Call, Comp, Hide, Clause, AskWait, AskCond, AskCommit, NoSort}
-use Rattle.unify.specs.Read.{varOf, numOf, argsOf, labelAt, argsAt, termAt, tabOf, treeAt, told, starts, begun}
-use Rattle.tells.specs.Tells.{beginsOf, beginsSort, oneAt, rangeOf}
+use Rattle.fields.specs.Read.{varOf, numOf, argsOf, labelAt, argsAt, termAt, tabOf, treeAt, told, starts, begun}
+use Rattle.begins.specs.Begins.{beginsOf, beginsSort}
+use Rattle.tells.specs.Tells.{oneAt, rangeOf}
 
 told-snoc : (lab : ℕ → Label) (j : ℕ) (l : List Word) → j < length l → told lab (suc j) l ≡ told lab j l ++ starts lab (getD l j Bad) (drop (suc j) l)
 unfolding told

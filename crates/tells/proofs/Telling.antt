@@ -14,18 +14,20 @@ use Rattle.constraint.proofs.Entail.{sats-append}
 use Rattle.constraint.proofs.Form.{build}
 use Rattle.words.specs.declared.Word.{Word}
 use Rattle.words.specs.declared.Word.the-variants.{Bad}
-use Rattle.classes.specs.Cells.{rep}
-use Rattle.classes.specs.Trail.{rewind, rewind-same}
+use Rattle.cells.specs.Cells.{rep}
+use Rattle.cells.specs.Trail.{rewind, rewind-same}
 use Rattle.classes.specs.Means.{bound, Fits, Apps, OldVars, OldIn}
 use Rattle.classes.proofs.Tables.{bound-yes, bound-no}
 use Rattle.classes.proofs.Linking.{apps-at}
-use Rattle.unify.specs.Read.{termAt, tabOf, Distinct, Vars, starts}
-use Rattle.unify.specs.Reach.{varsOf}
-use Rattle.unify.specs.Steps.{Step, Sound, Filled, Short}
-use Rattle.unify.specs.declared.Went.{Went}
-use Rattle.unify.specs.declared.Went.the-variants.{On, Clash, Full}
-use Rattle.unify.proofs.Trails.{step-none, step-then, vars-split, in-split, filled-then, filled-short, short-then}
-use Rattle.tells.specs.Tells.{Took, Taking, State, Means, Left, Done, Clashed, Stopped, Telling, Back, beginsOf, oneAt, rangeOf, appsAt, appsIn}
+use Rattle.fields.specs.Read.{termAt, tabOf, Distinct, Vars, starts}
+use Rattle.trails.specs.Reach.{varsOf}
+use Rattle.trails.specs.Steps.{Step, Sound, Filled, Short}
+use Rattle.trails.specs.declared.Went.{Went}
+use Rattle.trails.specs.declared.Went.the-variants.{On, Clash, Full}
+use Rattle.trails.proofs.Trails.{step-none, step-then, vars-split, in-split, filled-then, filled-short, short-then}
+use Rattle.begins.specs.Begins.{beginsOf}
+use Rattle.takes.specs.Takes.{Took, Taking}
+use Rattle.tells.specs.Tells.{State, Means, Left, Done, Clashed, Stopped, Telling, Back, oneAt, rangeOf, appsAt, appsIn}
 use Rattle.tells.specs.declared.Told.{Told}
 use Rattle.tells.specs.declared.Told.the-variants.{All, Failed, NoRoom}
 use Rattle.tells.proofs.Counts.{app-one, apps-more, apps-split}

@@ -6,47 +6,17 @@ use Prim.Native.Nat.{ℕ, zero, suc, _+_, _-_, _≤_, _<_}
 use native.Mathlib.Decide.{ℕ-discrete}
 use lib.ListN.{length, getD, drop}
 use Rattle.constraint.specs.Tree.{Label}
-use Rattle.constraint.specs.Constraint.{Asg, Store, Sats, In}
-use Rattle.constraint.proofs.FormSteps.{Holds}
+use Rattle.constraint.specs.Constraint.{Asg, Store, Sats}
 use Rattle.words.specs.declared.Word.{Word}
-use Rattle.words.specs.declared.Word.the-variants.{End, Free, Level, Num, Place, Inner, Bad}
-use Rattle.words.specs.declared.Sort.{Sort}
-use Rattle.words.specs.declared.Sort.the-variants.{Locals, Store as StoreSort, True, Fail, Eq, App, Call, Comp, Hide, Clause, AskWait, AskCond, AskCommit, NoSort}
+use Rattle.words.specs.declared.Word.the-variants.{Bad}
 use Rattle.classes.specs.Means.{Fits, Apps, OldVars, OldIn}
 use Rattle.classes.specs.Weights.{weights}
-use Rattle.unify.specs.Read.{tabOf, Distinct, told, starts}
-use Rattle.unify.specs.Reach.{varsOf}
-use Rattle.unify.specs.Steps.{Step, Sound, Filled, Short}
-use Rattle.unify.specs.declared.Went.{Went}
-use Rattle.unify.specs.declared.Went.the-variants.{On, Clash, Full}
+use Rattle.fields.specs.Read.{tabOf, Distinct, told, starts}
+use Rattle.trails.specs.Reach.{varsOf}
+use Rattle.trails.specs.Steps.{Step, Sound, Filled, Short}
 use Rattle.tells.specs.declared.Told.{Told}
 use Rattle.tells.specs.declared.Told.the-variants.{All, Failed, NoRoom}
-
--- what a word begins: 1 for fail, 2 for an equation, 3 for an application, 0 for nothing or true
-abbrev pub beginsSort : Sort → ℕ
-beginsSort Locals = 0
-beginsSort StoreSort = 0
-beginsSort True = 0
-beginsSort Fail = 1
-beginsSort Eq = 2
-beginsSort App = 3
-beginsSort Call = 0
-beginsSort Comp = 0
-beginsSort Hide = 0
-beginsSort Clause = 0
-beginsSort AskWait = 0
-beginsSort AskCond = 0
-beginsSort AskCommit = 0
-beginsSort NoSort = 0
-
-abbrev pub beginsOf : Word → ℕ
-beginsOf End = 0
-beginsOf (Free v) = 0
-beginsOf (Level v) = 0
-beginsOf (Num v) = 0
-beginsOf (Place k) = 0
-beginsOf (Inner s) = beginsSort s
-beginsOf Bad = 0
+use Rattle.begins.specs.Begins.{beginsOf}
 
 -- 1 for a word that begins an application
 unfoldable pub appOf : Word → ℕ
@@ -64,36 +34,6 @@ appsAt W i = appOf (getD W i Bad)
 
 abbrev pub appsIn : List Word → ℕ → ℕ → ℕ
 appsIn W from to = appsOf (to - from) (drop from W)
-
--- x = y may be told
-pub record CanEquate (W : List Word) (P T X C : List ℕ) (n x y : ℕ) : Type 0 where
-  pub sound : Sound W T X C n
-  pub apps : Apps T (length P)
-  pub size : length P ≤ 65536
-  pub inx : x < length T
-  pub iny : y < length T
-  pub usedx : In x (varsOf W)
-  pub usedy : In y (varsOf W)
-
--- x is the application k may be told
-pub record CanApply (W : List Word) (P T X C : List ℕ) (n x k : ℕ) : Type 0 where
-  pub sound : Sound W T X C n
-  pub apps : Apps T (length P)
-  pub size : length P ≤ 65536
-  pub inx : x < length T
-  pub usedx : In x (varsOf W)
-  pub app : k < length P
-
--- one constraint was told: Q says of an assignment that it satisfies it, b is a bound for the applications that it brings
-pub record Took (W : List Word) (P T X C : List ℕ) (n b : ℕ) (Q : (ℕ → Label) → Asg → Type 0) (T′ X′ C′ : List ℕ) (n′ : ℕ) : Type 0 where
-  pub step : Step W T X C n T′ X′ C′ n′
-  pub apps : (m : ℕ) → b ≤ m → Apps T m → Apps T′ m
-  pub means : (lab : ℕ → Label) (ρ : Asg) → (Fits (tabOf lab W P) T ρ × Q lab ρ) ↔ Fits (tabOf lab W P) T′ ρ
-
-abbrev pub Taking : List Word → List ℕ → List ℕ → List ℕ → List ℕ → ℕ → ℕ → ((ℕ → Label) → Asg → Type 0) → List ℕ → List ℕ → List ℕ → Went → Type 0
-Taking W P T X C n b Q T′ X′ C′ (On n′) = Took W P T X C n b Q T′ X′ C′ n′
-Taking W P T X C n b Q T′ X′ C′ (Clash n′) = Step W T X C n T′ X′ C′ n′ × ((lab : ℕ → Label) → Distinct lab → (ρ : Asg) → Fits (tabOf lab W P) T ρ → Q lab ρ → ⊥)
-Taking W P T X C n b Q T′ X′ C′ (Full n′) = Step W T X C n T′ X′ C′ n′ × Filled X C n′
 
 -- the tables between tells: n changes and a applications so far; the table is at least as heavy as the trail is long
 pub record State (W : List Word) (P T X C : List ℕ) (n a : ℕ) : Type 0 where

@@ -10,18 +10,18 @@ use Rattle.constraint.specs.Constraint.{Asg, In}
 use Rattle.constraint.specs.Solve.{Bnd, free, fun}
 use Rattle.constraint.proofs.FormSteps.{Holds}
 use Rattle.words.specs.declared.Word.{Word}
-use Rattle.classes.specs.Cells.{par, rep, Up, Found}
-use Rattle.classes.specs.Trail.{Saved, CanSave, grown-saved, grows-bound}
+use Rattle.cells.specs.Cells.{par, rep, Up, Found}
+use Rattle.cells.specs.Trail.{Saved, CanSave, grown-saved, grows-bound}
 use Rattle.classes.specs.Weights.{weights-stored, weight-free, weight-taken}
 use Rattle.classes.specs.Means.{bound, Fits, Pend, Apps, OldApps, OldVars}
 use Rattle.classes.proofs.Tables.{cell-cases, up-root, fits-rep, fits-holds, fits-bind, bound-yes, bound-no, holds-move, holds-none}
 use Rattle.classes.proofs.Linking.{root-cell, one-pend, one-apps, one-vars, one-in, within-saved, rep-in, apps-saved}
-use Rattle.unify.specs.Read.{termAt, tabOf, treeAt, Distinct}
-use Rattle.unify.specs.Reach.{varsOf}
-use Rattle.unify.specs.Steps.{Step, Sound, CanHold, Met, Meeting, Held, Holding}
-use Rattle.unify.specs.declared.Went.{Went}
-use Rattle.unify.specs.declared.Went.the-variants.{On, Clash, Full}
-use Rattle.unify.proofs.Trails.{step-none, pend-none, apps-none}
+use Rattle.fields.specs.Read.{termAt, tabOf, treeAt, Distinct}
+use Rattle.trails.specs.Reach.{varsOf}
+use Rattle.trails.specs.Steps.{Step, Sound, CanHold, Met, Meeting, Held, Holding}
+use Rattle.trails.specs.declared.Went.{Went}
+use Rattle.trails.specs.declared.Went.the-variants.{On, Clash, Full}
+use Rattle.trails.proofs.Trails.{step-none, pend-none, apps-none}
 
 -- x is the application k: it has its tree
 pub holds-tree : (lab : ℕ → Label) (W : List Word) (P : List ℕ) (ρ : Asg) (x k : ℕ) → Holds ρ x (tabOf lab W P k) ↔ (ρ x ≡ treeAt lab W ρ (getD P k 0))

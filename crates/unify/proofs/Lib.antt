@@ -1,4 +1,2 @@
-pub mod Trails
-pub mod Meeting
 pub mod Holding
 pub mod Settling

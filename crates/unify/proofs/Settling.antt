@@ -10,15 +10,15 @@ use Rattle.constraint.specs.Constraint.{Asg, In}
 use Rattle.constraint.specs.Solve.{Bnd, free, fun}
 use Rattle.constraint.proofs.FormSteps.{Holds}
 use Rattle.words.specs.declared.Word.{Word}
-use Rattle.classes.specs.Cells.{par, rep, Up, Found}
+use Rattle.cells.specs.Cells.{par, rep, Up, Found}
 use Rattle.classes.specs.Means.{bound, Fits, Pend, Apps, OldApps, OldVars, OldIn}
 use Rattle.classes.proofs.Tables.{bound-yes, bound-no, holds-none}
-use Rattle.unify.specs.Read.{tabOf, Distinct}
-use Rattle.unify.specs.Reach.{varsOf}
-use Rattle.unify.specs.Steps.{Step, Sound, CanHold, CanSettle, Held, Holding, Settled, Settling}
-use Rattle.unify.specs.declared.Went.{Went}
-use Rattle.unify.specs.declared.Went.the-variants.{On, Clash, Full}
-use Rattle.unify.proofs.Trails.{step-none, step-then, pend-none, pend-first, pend-split, apps-split, vars-split, apps-less, vars-less, in-split, in-less, in-of, apps-of, vars-of, filled-then}
+use Rattle.fields.specs.Read.{tabOf, Distinct}
+use Rattle.trails.specs.Reach.{varsOf}
+use Rattle.trails.specs.Steps.{Step, Sound, CanHold, CanSettle, Held, Holding, Settled, Settling}
+use Rattle.trails.specs.declared.Went.{Went}
+use Rattle.trails.specs.declared.Went.the-variants.{On, Clash, Full}
+use Rattle.trails.proofs.Trails.{step-none, step-then, pend-none, pend-first, pend-split, apps-split, vars-split, apps-less, vars-less, in-split, in-less, in-of, apps-of, vars-of, filled-then}
 
 -- what a loop over the entries has done by the i-th
 pub record Settles (W : List Word) (P T₀ X₀ C₀ : List ℕ) (i₀ n₀ : ℕ) (T X C : List ℕ) (i n : ℕ) : Type 0 where

@@ -8,10 +8,10 @@ use Rattle.constraint.specs.Tree.{Label}
 use Rattle.constraint.specs.Constraint.{Asg}
 use Rattle.constraint.proofs.FormSteps.{Holds}
 use Rattle.words.specs.declared.Word.{Word}
-use Rattle.classes.specs.Cells.{rep, Up, Found}
+use Rattle.cells.specs.Cells.{rep, Up, Found}
 use Rattle.classes.specs.Means.{bound, Fits}
 use Rattle.classes.proofs.Tables.{fits-rep, fits-holds, bound-yes, bound-no}
-use Rattle.unify.specs.Read.{tabOf, termAt, treeAt}
+use Rattle.fields.specs.Read.{tabOf, termAt, treeAt}
 use Rattle.unify.proofs.Holding.{holds-tree}
 use Rattle.views.specs.View.{Free, Term}
 

@@ -7,9 +7,9 @@ use Rattle.constraint.specs.Tree.{Label}
 use Rattle.constraint.specs.Constraint.{Asg}
 use Rattle.constraint.specs.Solve.{Bnd, free}
 use Rattle.words.specs.declared.Word.{Word}
-use Rattle.classes.specs.Cells.{rep, Up}
+use Rattle.cells.specs.Cells.{rep, Up}
 use Rattle.classes.specs.Means.{bound, Fits, Apps}
-use Rattle.unify.specs.Read.{tabOf, termAt, treeAt}
+use Rattle.fields.specs.Read.{tabOf, termAt, treeAt}
 use Rattle.views.specs.declared.View.{View}
 use Rattle.views.specs.declared.View.the-variants.{Unbound, Bound}
 

@@ -13,7 +13,7 @@ pub fn view_of(pos: &[u8], cells: &[u8], x: usize) -> View
     requires { ⌜ CanView (longs (now pos)) (triples (now cells)) x ⌝ }
     ensures { λ r. ⌜ Viewed (longs (now (pos .entry))) (triples (now (cells .entry))) x r ⌝ }
 {
-    let r = classes::find(cells, x);
+    let r = cells::find(cells, x);
     let c = numbers::triple_get(cells, r);
     if c % 4 != 2 {
         return View::Unbound(r);

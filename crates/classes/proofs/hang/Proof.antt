@@ -4,8 +4,8 @@ use native.Mathlib.Omega.{arith}
 use lib.ListN.{length}
 use Rattle.numbers.specs.Stored.{stored-other}
 use Rattle.numbers.specs.Numbers.{shorts, triples, length-shorts}
-use Rattle.classes.specs.Cells.{room}
-use Rattle.classes.specs.Trail.{CanSave}
+use Rattle.cells.specs.Cells.{room}
+use Rattle.cells.specs.Trail.{CanSave}
 use Rattle.classes.proofs.Linking.{joined-link, joined-raise, link-paid, root-cell, same-rank, differ}
 use borrow.Author.Needs.{needs}
 use Rattle.classes.proofs.hang.Statement.{statement}

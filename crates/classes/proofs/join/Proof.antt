@@ -3,7 +3,7 @@ use Prim.Native.Nat.{ℕ, _-_}
 use native.Mathlib.Omega.{arith}
 use lib.ListN.{length}
 use Rattle.numbers.specs.Numbers.{shorts, triples}
-use Rattle.classes.specs.Cells.{rep, room, Found}
+use Rattle.cells.specs.Cells.{rep, room, Found}
 use Rattle.classes.specs.Means.{Order}
 use Rattle.classes.proofs.Linking.{joined-same, joined-reps, joined-sym}
 use mathlib.Core.Bool.{Bool}

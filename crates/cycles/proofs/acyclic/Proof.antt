@@ -4,7 +4,7 @@ use native.Mathlib.Omega.{arith}
 use lib.ListN.{length}
 use Rattle.numbers.specs.Numbers.{shorts, triples, longs}
 use Rattle.words.specs.Words.{words}
-use Rattle.cycles.proofs.Searching.{search-first}
+use Rattle.explores.proofs.Searching.{search-first}
 use borrow.Author.Needs.{needs}
 use Rattle.cycles.proofs.acyclic.Statement.{statement}
 use Rattle.cycles.proofs.acyclic.Tie as tie

@@ -3,7 +3,7 @@ use Prim.Native.Nat.{ℕ, _-_, _≤_, _<_}
 use native.Mathlib.Omega.{arith}
 use lib.ListN.{length, getD}
 use Rattle.numbers.specs.Numbers.{shorts, length-shorts}
-use Rattle.cycles.proofs.Finding.{clear-more}
+use Rattle.explores.proofs.Finding.{clear-more}
 use Rattle.cycles.proofs.clear.Statement.{statement}
 use Rattle.cycles.proofs.clear.Tie as tie
 

@@ -4,8 +4,8 @@ use native.Mathlib.Omega.{arith}
 use lib.ListN.{length, getD}
 use Rattle.numbers.specs.Numbers.{shorts, triples, longs, length-shorts, length-longs}
 use Rattle.words.specs.Words.{words}
-use Rattle.cycles.specs.Search.{Search, left}
-use Rattle.cycles.proofs.Finding.{cycle, no-cycle, marked-same, explored-of, cyclic-of, met-more}
+use Rattle.explores.specs.Search.{Search, left}
+use Rattle.explores.proofs.Finding.{cycle, no-cycle, marked-same, explored-of, cyclic-of, met-more}
 use Rattle.cycles.proofs.sweep.Statement.{statement}
 use Rattle.cycles.proofs.sweep.Tie as tie
 

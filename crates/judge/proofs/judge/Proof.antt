@@ -6,7 +6,9 @@ use borrow.Author.Tests.{not-false, not-true}
 use lib.ListN.{length}
 use Rattle.numbers.specs.Numbers.{shorts, triples, longs}
 use Rattle.words.specs.Words.{words}
-use Rattle.judge.proofs.Judging.{done-of, clash-of, stop-of, judge-told, judge-clash, judge-unfit, judge-none, zero-cells, zero-state, sizes-later, sizes-of, length-same-triples}
+use Rattle.fits.proofs.Fitting.{sizes-of}
+use Rattle.judge.proofs.Starting.{judge-told, judge-clash, judge-unfit, judge-none, zero-cells, zero-state, sizes-later}
+use Rattle.verdicts.proofs.Judging.{done-of, clash-of, stop-of, length-same-triples}
 use Rattle.solver.proofs.Verdict.{start-means}
 use borrow.Author.Needs.{needs}
 use Rattle.judge.proofs.judge.Statement.{statement}

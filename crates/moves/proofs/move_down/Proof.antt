@@ -7,7 +7,7 @@ use lib.Seq.{getD-drop}
 use Rattle.words.specs.declared.Word.{Word}
 use Rattle.words.specs.declared.Word.the-variants.{Bad}
 use Rattle.words.specs.Words.{words, length-words}
-use Rattle.moves.specs.Runs.{copied, copied-none, copied-more, length-rest, getD-copied-past}
+use Rattle.copies.specs.Runs.{copied, copied-none, copied-more, length-rest, getD-copied-past}
 use Rattle.moves.proofs.move_down.Statement.{statement}
 use Rattle.moves.proofs.move_down.Tie as tie
 

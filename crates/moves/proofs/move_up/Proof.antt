@@ -5,7 +5,7 @@ use native.Mathlib.Nat.{add-zero, sub-zero}
 use lib.ListN.{length, drop}
 use Rattle.words.specs.declared.Word.the-variants.{Bad}
 use Rattle.words.specs.Words.{words, length-words}
-use Rattle.moves.specs.Runs.{copied, copied-none, move-up-step}
+use Rattle.copies.specs.Runs.{copied, copied-none, move-up-step}
 use Rattle.moves.proofs.move_up.Statement.{statement}
 use Rattle.moves.proofs.move_up.Tie as tie
 

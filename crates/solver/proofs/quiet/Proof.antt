@@ -5,8 +5,8 @@ use borrow.Author.Tests.{not-true, not-false}
 use lib.ListN.{length}
 use Rattle.numbers.specs.Numbers.{shorts, triples, longs}
 use Rattle.words.specs.Words.{words}
-use Rattle.solver.proofs.Owning.{went-apart}
-use Rattle.cycles.specs.Search.{Tested}
+use Rattle.owners.proofs.Owning.{went-apart}
+use Rattle.explores.specs.Search.{Tested}
 use Rattle.solver.proofs.Quietness.{calmed-cyclic, calmed-joint, calmed-apart, calmed-none, kept-none, kept-back, can-undo, marks-apart, marks-joint, loud-joint, marks-full, full-place}
 use borrow.Author.Needs.{needs}
 use Rattle.solver.proofs.quiet.Statement.{statement}

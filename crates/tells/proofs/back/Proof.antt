@@ -2,7 +2,7 @@ use Prim.Native.Nat.{_-_}
 use lib.ListN.{length}
 use Rattle.numbers.specs.Numbers.{shorts, triples, longs}
 use Rattle.words.specs.Words.{words}
-use Rattle.unify.proofs.Trails.{vars-of}
+use Rattle.trails.proofs.Trails.{vars-of}
 use Rattle.tells.proofs.Telling.{back-tables}
 use borrow.Author.Needs.{needs}
 use Rattle.tells.proofs.back.Statement.{statement}

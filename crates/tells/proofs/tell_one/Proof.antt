@@ -4,9 +4,10 @@ use native.Mathlib.Omega.{arith}
 use lib.ListN.{length}
 use Rattle.numbers.specs.Numbers.{shorts, triples, longs}
 use Rattle.words.specs.Words.{words}
-use Rattle.unify.specs.Read.{varOf}
-use Rattle.unify.specs.Reach.{var-in}
-use Rattle.tells.specs.Tells.{beginsOf, oneAt, appsAt}
+use Rattle.fields.specs.Read.{varOf}
+use Rattle.trails.specs.Reach.{var-in}
+use Rattle.begins.specs.Begins.{beginsOf}
+use Rattle.tells.specs.Tells.{oneAt, appsAt}
 use Rattle.numbers.specs.Stored.{stored-same, stored-other}
 use Rattle.tells.proofs.Ranges.{one-eq, one-app}
 use Rattle.tells.proofs.Counts.{app-one}

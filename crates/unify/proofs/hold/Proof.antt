@@ -6,8 +6,8 @@ use borrow.Author.Tests.{not-true, not-false}
 use lib.ListN.{length}
 use Rattle.numbers.specs.Numbers.{shorts, triples, longs, length-shorts}
 use Rattle.words.specs.Words.{words}
-use Rattle.unify.specs.Steps.{Room}
-use Rattle.unify.proofs.Trails.{step-none}
+use Rattle.trails.specs.Steps.{Room}
+use Rattle.trails.proofs.Trails.{step-none}
 use Rattle.classes.proofs.Linking.{apps-at}
 use Rattle.unify.proofs.Holding.{held-same, held-met, held-bind}
 use borrow.Author.Needs.{needs}
