@@ -17,15 +17,15 @@ use Rattle.descent.specs.Descent.{the-simple}
 use Rattle.phrases.specs.Codes.{toks}
 use Rattle.phrases.specs.Phrases.{Reserved}
 use Rattle.emits.specs.Out.{wrote-same}
-use Rattle.emits.specs.Vars.{Spells}
-use Rattle.emits.specs.declared.Vars as enum
-use Rattle.emits.specs.declared.Vars.the-variants.{Done, Many, Full}
+use Rattle.varwords.specs.Vars.{Spells}
+use Rattle.varwords.specs.declared.Vars as enum
+use Rattle.varwords.specs.declared.Vars.the-variants.{Done, Many, Full}
 use Rattle.pieces.specs.Worst.{Lowest, Lower}
 use Rattle.pieces.specs.Effect.{Numbered}
 use Rattle.pieces.specs.Reads.{a-simple, Spelling, Scope, CanRead, Finished, ReadTo, around, heads, bound}
 use Rattle.pieces.specs.declared.Read.{Read}
 use Rattle.pieces.specs.declared.Read.the-variants as read
-use Rattle.atoms.specs.Parts.{Lay, Part, TooMany, PartTo, Parted}
+use Rattle.laid.specs.Parts.{Lay, Part, TooMany, PartTo, Parted}
 
 -- the refusal of an atom: `low`, or 6 if that is lower and a variable is not bound
 abbrev pub FaultOf : Bool → ℕ → ℕ → Type 0

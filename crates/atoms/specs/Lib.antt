@@ -1,4 +1,2 @@
-pub mod Parts
-pub mod Shapes
 pub mod Answers
 pub mod Subjects

@@ -24,15 +24,15 @@ use Rattle.phrases.specs.declared.Constraint.{Constraint}
 use Rattle.phrases.specs.declared.Constraint.the-variants.{Same, Made}
 use Rattle.phrases.specs.declared.Constraint.the-variants as kind
 use Rattle.phrases.specs.declared.Simple.the-variants.{Atom, Program}
-use Rattle.scopes.specs.Places.{ids, among, length-ids, name-default}
+use Rattle.lookups.specs.Places.{ids, among, length-ids, name-default}
 use Rattle.scopes.specs.Spelled.{among-names}
-use Rattle.emits.specs.Names.{names-ids, size-map}
+use Rattle.varwords.specs.Names.{names-ids, size-map}
 use Rattle.pieces.specs.Worst.{Lowest, lowest-none, lowest-fault, lowest-fine, lowest-both}
 use Rattle.pieces.specs.Reads.{a-simple, Spelling, CanRead, ReadTo, around, heads, bound}
 use Rattle.pieces.specs.declared.Read.{Read}
 use Rattle.pieces.specs.declared.Read.the-variants as read
-use Rattle.atoms.specs.Parts.{Tables, Inside, unbound-none}
-use Rattle.atoms.specs.Shapes.{con-lay, call-lay, varsOf, sizeOf, argumentsOf, NamesOf, CanConstraint, CanProgram}
+use Rattle.laid.specs.Parts.{Tables, Inside, unbound-none}
+use Rattle.laid.specs.Shapes.{con-lay, call-lay, varsOf, sizeOf, argumentsOf, NamesOf, CanConstraint, CanProgram}
 use Rattle.atoms.specs.Answers.{FaultOf, Subject, one-tree}
 
 -- What `constraint` promises of its answer, wherever the constraint stands.

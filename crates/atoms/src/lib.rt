@@ -3,15 +3,12 @@ ghost use mathlib.Core.Path.{_≡_};
 ghost use Prim.Native.Nat.{_+_, _<_};
 ghost use Rattle.numbers.specs.Numbers.{shorts, triples};
 ghost use Rattle.words.specs.Words.{words};
-ghost use Rattle.atoms.specs.Shapes.{argumentsOf, CanConstraint, CanProgram};
+ghost use Rattle.laid.specs.Shapes.{argumentsOf, CanConstraint, CanProgram};
 ghost use Rattle.atoms.specs.Answers.{FaultOf, AnswerTo};
 ghost use Rattle.atoms.specs.Subjects.{ConstraintRead, ProgramRead, missingOf};
-
-mod laid;
-
-use emits::Vars;
 use phrases::Constraint;
 use pieces::Read;
+use varwords::Vars;
 
 // How many arguments a constraint's label has.
 fn arguments(kind: Constraint) -> usize
@@ -86,7 +83,7 @@ fn missing(heads: &[u8], head: usize) -> usize
     ensures { λ r. ⌜ r ≡ missingOf head (triples (now (heads .entry))) ⌝ }
 {
     let n = numbers::triple_count(heads);
-    if scopes::listed(heads, n, head) {
+    if lookups::listed(heads, n, head) {
         return 8;
     }
     5

@@ -26,10 +26,11 @@ use Rattle.phrases.specs.Phrases as p
 use Rattle.phrases.specs.declared.Phrase.the-variants.{To, Odd as NoPhrase}
 use Rattle.phrases.specs.declared.Constraint.{Constraint}
 use Rattle.phrases.specs.declared.Simple.the-variants.{Atom, Program, Bracket, Odd as NoSimple}
-use Rattle.grammar.specs.Grammar.{frames, Says, Forward, Followed, Stepped, StatementTo, DefinitionTo, QueryIs, ProgramIs}
-use Rattle.grammar.specs.declared.Onward.{Onward}
-use Rattle.grammar.specs.declared.Onward.the-variants.{Next, Done, Odd, Full}
-use Rattle.grammar.specs.declared.End.the-variants.{To as Ends, None, Short}
+use Rattle.statements.specs.Statements.{frames, Says, Forward, Followed, Stepped, StatementTo}
+use Rattle.grammar.specs.Grammar.{DefinitionTo, QueryIs, ProgramIs}
+use Rattle.statements.specs.declared.Onward.{Onward}
+use Rattle.statements.specs.declared.Onward.the-variants.{Next, Done, Odd, Full}
+use Rattle.statements.specs.declared.End.the-variants.{To as Ends, None, Short}
 use Rattle.grammar.specs.declared.Verdict.the-variants.{Of, NotOf, NoRoom}
 
 -- whether a name is allowed, by its number

@@ -1,3 +1,2 @@
-pub mod Following
-pub mod Stepping
+pub mod Querying
 pub mod Defining

@@ -27,7 +27,7 @@ pub fn judge(
         return Judged::Unfit;
     }
     numbers::fill_zero(cells);
-    let w = tells::tell(t, pos, cells, vars, olds, 0, 0, from, mid);
+    let w = ranges::tell(t, pos, cells, vars, olds, 0, 0, from, mid);
     match w {
         Told::All(n, a) => {
             verdicts::against(

@@ -8,9 +8,9 @@ use Rattle.akl.specs.Token.{Token, name, digits}
 use Rattle.tokens.specs.declared.Kind.{Kind}
 use Rattle.tokens.specs.declared.Kind.the-variants.{Name, Digits, Variable, OpenBracket, CloseBracket, Comma, FullStop, Colon, Defines, Equals, Semicolon, Wait, Cond, Commit}
 use Rattle.tokens.specs.Kinds.{tokenOf}
-use Rattle.names.specs.Spell.{named}
-use Rattle.names.specs.Trie.{Trie, Grown}
-use Rattle.names.specs.Names.{one-number, named-kept}
+use Rattle.nodes.specs.Spell.{named}
+use Rattle.nodes.specs.Trie.{Trie, Grown}
+use Rattle.trie.specs.Names.{one-number, named-kept}
 
 -- the number of a kind
 abbrev pub kindNo : Kind → ℕ

@@ -6,12 +6,13 @@ use native.Mathlib.Omega.{arith}
 use lib.ListN.{take, drop}
 use Rattle.tokens.specs.declared.Kind.{Kind}
 use Rattle.tokens.specs.Kinds.{tokenOf}
-use Rattle.names.specs.declared.Child.{Child}
-use Rattle.names.specs.declared.Child.the-variants.{At, Full}
-use Rattle.names.specs.Spell.{named}
-use Rattle.names.specs.Trie.{Roomy, Trie, Grown, Kept}
-use Rattle.names.specs.Names.{grown-none}
-use Rattle.names.specs.Outcome.{CanIntern, Interned, kept-none}
+use Rattle.trie.specs.declared.Child.{Child}
+use Rattle.trie.specs.declared.Child.the-variants.{At, Full}
+use Rattle.nodes.specs.Spell.{named}
+use Rattle.nodes.specs.Trie.{Roomy, Trie, Grown, Kept}
+use Rattle.trie.specs.Names.{grown-none}
+use Rattle.names.specs.Interning.{CanIntern, Interned}
+use Rattle.trie.specs.Outcome.{kept-none}
 use Rattle.lexed.specs.Codes.{kindNo, tokenAt, Fit, kind-small, mark-any, token-at}
 
 -- what may be coded: a token has a byte at least

@@ -9,9 +9,9 @@ use Rattle.akl.specs.Token as akl
 use Rattle.tokens.specs.declared.Kind.{Kind}
 use Rattle.tokens.specs.declared.Kind.the-variants.{Name, Digits, Variable, OpenBracket, CloseBracket, Comma, FullStop, Colon, Defines, Equals, Semicolon, Wait, Cond, Commit}
 use Rattle.tokens.specs.Kinds.{tokenOf}
-use Rattle.names.specs.Spell.{named}
-use Rattle.names.specs.Trie.{Trie}
-use Rattle.names.specs.Names.{one-number}
+use Rattle.nodes.specs.Spell.{named}
+use Rattle.nodes.specs.Trie.{Trie}
+use Rattle.trie.specs.Names.{one-number}
 use Rattle.lexed.specs.Codes.{kindNo, kindOf, tokenAt, Fit}
 
 -- the number of a token's kind

@@ -18,10 +18,10 @@ use Rattle.tokens.specs.Kinds.{tokenOf}
 use Rattle.tokens.specs.Next.{Moved, Reads}
 use Rattle.tokens.specs.Tokens.{tokens-read}
 use Rattle.numbers.specs.Stored.{Stored, stored-same, stored-other}
-use Rattle.names.specs.declared.Child.the-variants as child
-use Rattle.names.specs.Trie.{Roomy, Trie, Grown, Kept}
-use Rattle.names.specs.Names.{grown-none, grown-twice}
-use Rattle.names.specs.Outcome.{kept-none, kept-twice}
+use Rattle.trie.specs.declared.Child.the-variants as child
+use Rattle.nodes.specs.Trie.{Roomy, Trie, Grown, Kept}
+use Rattle.trie.specs.Names.{grown-none, grown-twice}
+use Rattle.trie.specs.Outcome.{kept-none, kept-twice}
 use Rattle.lexed.specs.declared.Lexed.{Lexed}
 use Rattle.lexed.specs.declared.Lexed.the-variants as lexed
 use Rattle.lexed.specs.Codes.{tokenAt, Fit, token-kept, fit-more}

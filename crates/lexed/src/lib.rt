@@ -2,14 +2,14 @@
 // is 0 for a mark.
 ghost use mathlib.Core.Path.{_≡_};
 ghost use Rattle.numbers.specs.Numbers.{shorts, triples};
-ghost use Rattle.names.specs.Trie.{Trie};
+ghost use Rattle.nodes.specs.Trie.{Trie};
 ghost use Rattle.lexed.specs.Codes.{kindNo};
 ghost use Rattle.lexed.specs.Encoded.{CanCode, Encoded};
 ghost use Rattle.lexed.specs.Table.{Tokenised};
-use names::Child;
 use tokens::Cursor;
 use tokens::Kind;
 use tokens::Next;
+use trie::Child;
 
 // How many codes and nodes there are; or some bytes are no token; or a table is too short.
 pub enum Lexed {

@@ -1,5 +1,1 @@
-pub mod Spell
-pub mod Trie
-pub mod Names
-pub mod Grows
-pub mod Outcome
+pub mod Interning

@@ -1,9 +1,9 @@
-// Phrases of a text in its table of tokens: lists of variables, arguments, hidden lists and simple statements. A token is a
-// number of three bytes: its kind, and 256 times the number of its name.
+// Phrases of a text in its table of tokens: lists of variables, arguments and hidden lists; what simple statements there are.
+// A token is a number of three bytes: its kind, and 256 times the number of its name.
 ghost use mathlib.Core.Path.{_≡_};
 ghost use Rattle.numbers.specs.Numbers.{triples};
-ghost use Rattle.phrases.specs.Codes.{Known, kindAt, numberAt};
-ghost use Rattle.phrases.specs.Phrases.{VariablesTo, ArgumentsTo, HiddenTo, CanEquate, CanName, SimpleAt};
+ghost use Rattle.phrases.specs.Codes.{kindAt, numberAt};
+ghost use Rattle.phrases.specs.Phrases.{VariablesTo, ArgumentsTo, HiddenTo};
 
 // A list of `count` names and the position behind it, or there is none.
 pub enum Phrase {
@@ -130,97 +130,4 @@ pub fn hidden_end(codes: &[u8], at: usize) -> Phrase
         }
         Phrase::Odd => Phrase::Odd,
     }
-}
-
-// The constraint that begins with the variable at `at` and an equals sign.
-fn equation_at(codes: &[u8], at: usize) -> Simple
-    requires { ⌜ CanEquate (triples (now codes)) at ⌝ }
-    ensures { λ r. ⌜ SimpleAt (triples (now (codes .entry))) at r ⌝ }
-{
-    let var = number_at(codes, at);
-    let i = at + 2;
-    let k = kind_at(codes, i);
-    if k == 2 {
-        let right = number_at(codes, i);
-        return Simple::Atom {
-            kind: Constraint::Same { left: var, right },
-            rest: i + 1,
-        };
-    }
-    if 2 < k {
-        return Simple::Odd;
-    }
-    let label = number_at(codes, i);
-    let p = arguments_end(codes, i + 1);
-    match p {
-        Phrase::To { rest, count } => Simple::Atom {
-            kind: Constraint::Made {
-                var,
-                label,
-                first: i + 2,
-                count,
-            },
-            rest,
-        },
-        Phrase::Odd => Simple::Odd,
-    }
-}
-
-// The constraint or program atom that begins with the name at `at`. The names `true` and `fail` have the numbers 4 and 8.
-fn named_at(codes: &[u8], at: usize) -> Simple
-    requires { ⌜ CanName (triples (now codes)) at ⌝ }
-    ensures { λ r. ⌜ SimpleAt (triples (now (codes .entry))) at r ⌝ }
-{
-    let name = number_at(codes, at);
-    let p = arguments_end(codes, at + 1);
-    match p {
-        Phrase::To { rest, count } => {
-            if name == 4 {
-                if count != 0 {
-                    return Simple::Odd;
-                }
-                return Simple::Atom {
-                    kind: Constraint::True,
-                    rest,
-                };
-            }
-            if name == 8 {
-                if count != 0 {
-                    return Simple::Odd;
-                }
-                return Simple::Atom {
-                    kind: Constraint::Fail,
-                    rest,
-                };
-            }
-            Simple::Program {
-                name,
-                first: at + 2,
-                count,
-                rest,
-            }
-        }
-        Phrase::Odd => Simple::Odd,
-    }
-}
-
-// The simple statement that begins at `at`.
-pub fn simple_at(codes: &[u8], at: usize) -> Simple
-    requires { ⌜ Known (triples (now codes)) ⌝ }
-    ensures { λ r. ⌜ SimpleAt (triples (now (codes .entry))) at r ⌝ }
-{
-    let k = kind_at(codes, at);
-    if k == 3 {
-        return Simple::Bracket { inside: at + 1 };
-    }
-    if k == 2 {
-        if kind_at(codes, at + 1) != 9 {
-            return Simple::Odd;
-        }
-        return equation_at(codes, at);
-    }
-    if k == 0 {
-        return named_at(codes, at);
-    }
-    Simple::Odd
 }

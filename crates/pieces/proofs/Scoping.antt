@@ -12,7 +12,7 @@ use Rattle.words.specs.declared.Word.{Word}
 use Rattle.phrases.specs.Codes.{numberAt, toks}
 use Rattle.phrases.specs.Phrases.{names, HiddenTo}
 use Rattle.phrases.specs.declared.Phrase.the-variants.{To}
-use Rattle.scopes.specs.Places.{ids, repeated, length-ids, name-default}
+use Rattle.lookups.specs.Places.{ids, repeated, length-ids, name-default}
 use Rattle.scopes.specs.Scopes.{Bound, Bindings}
 use Rattle.scopes.specs.Contracts.{CanBind, CanUnbind, Unbound, can-unbind, unbound-back}
 use Rattle.scopes.specs.Spelled.{Own, repeated-names, in-ids}

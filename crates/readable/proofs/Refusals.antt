@@ -17,7 +17,7 @@ use Rattle.akl.specs.Grammar.{Statement, Definition}
 use Rattle.akl.specs.Parse.{parse-query, parse-program}
 use Rattle.akl.specs.Reader.{Query, checked, definition-of, program-faults, query-faults, query-variables, statement-of, read-program, read-query}
 use Rattle.tokens.specs.Runs.{size-length}
-use Rattle.names.specs.Trie.{Roomy}
+use Rattle.nodes.specs.Trie.{Roomy}
 use Rattle.readable.specs.declared.Readable.{Readable}
 use Rattle.readable.specs.declared.Readable.the-variants.{Yes, Long, Odd, Short}
 use Rattle.readable.specs.Texts.{refusal, Answered}

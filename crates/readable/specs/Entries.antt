@@ -14,14 +14,14 @@ use borrow.Author.Tests.{eq-eqb, eqb-true, eqb-false}
 use Rattle.akl.specs.Base.{Name, same, bytes}
 use Rattle.akl.specs.Token.{tokens}
 use Rattle.tokens.specs.Kinds.{tokenOf}
-use Rattle.names.specs.Spell.{named}
-use Rattle.names.specs.Trie.{Trie, Grown}
-use Rattle.names.specs.Names.{one-number}
+use Rattle.nodes.specs.Spell.{named}
+use Rattle.nodes.specs.Trie.{Trie, Grown}
+use Rattle.trie.specs.Names.{one-number}
 use Rattle.lexed.specs.Codes.{kindOf, tokenAt, Fit}
 use Rattle.lexed.specs.Table.{Table, map-first}
 use Rattle.phrases.specs.Codes.{kinded, tok, toks, kindAt, numberAt, Known, kind-inside}
 use Rattle.phrases.specs.Phrases.{Reserved}
-use Rattle.readable.specs.Lexicon.{Lexicon, lexicon-kept}
+use Rattle.lexicon.specs.Lexicon.{Lexicon, lexicon-kept}
 
 -- The first k codes of K′ are the text's tokens, in a trie of m nodes that has grown from one of n.
 pub record Entries (text N : List ℕ) (n : ℕ) (K′ N′ H′ S′ : List ℕ) (k m : ℕ) : Type 0 where

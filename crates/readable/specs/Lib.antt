@@ -1,3 +1,2 @@
-pub mod Lexicon
 pub mod Entries
 pub mod Texts

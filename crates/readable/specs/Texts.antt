@@ -10,9 +10,9 @@ use Rattle.akl.specs.Base.{Name, _>>=_}
 use Rattle.akl.specs.Token.{Token, tokens}
 use Rattle.numbers.specs.Numbers.{triples, length-triples}
 use Rattle.numbers.specs.Prefix.{triples-prefix}
-use Rattle.names.specs.Spell.{named}
-use Rattle.names.specs.Trie.{Roomy, Kept}
-use Rattle.names.specs.Outcome.{kept-none}
+use Rattle.nodes.specs.Spell.{named}
+use Rattle.nodes.specs.Trie.{Roomy, Kept}
+use Rattle.trie.specs.Outcome.{kept-none}
 use Rattle.lexed.specs.declared.Lexed.{Lexed}
 use Rattle.lexed.specs.declared.Lexed.the-variants as lexed
 use Rattle.lexed.specs.Table.{Table, Tokenised}
@@ -22,7 +22,7 @@ use Rattle.grammar.specs.declared.Verdict.{Verdict}
 use Rattle.grammar.specs.declared.Verdict.the-variants.{Of, NotOf, NoRoom}
 use Rattle.readable.specs.declared.Readable.{Readable}
 use Rattle.readable.specs.declared.Readable.the-variants.{Yes, Long, Odd, Short}
-use Rattle.readable.specs.Lexicon.{Lexicon}
+use Rattle.lexicon.specs.Lexicon.{Lexicon}
 use Rattle.readable.specs.Entries.{Entries, entries}
 
 -- the number of a refusal in document 01

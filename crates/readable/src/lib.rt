@@ -1,14 +1,12 @@
 // Whether bytes are a program text or a query text: short enough, and of the grammar. The table of their tokens is left for
 // whoever reads on.
-ghost use mathlib.Core.Path.{_≡_};
 ghost use Rattle.numbers.specs.Numbers.{shorts, triples};
 ghost use Rattle.akl.specs.Limits.{program-bytes, query-bytes};
 ghost use Rattle.akl.specs.Parse.{parse-query, parse-program};
-ghost use Rattle.readable.specs.Lexicon.{Lexicon, Begun};
+ghost use Rattle.lexicon.specs.Lexicon.{Lexicon};
 ghost use Rattle.readable.specs.Texts.{Answered};
 use grammar::Verdict;
 use lexed::Lexed;
-use names::Child;
 
 // How many tokens a text has, and how many nodes its names; or it is too long; not of the grammar; or a table or the stack is
 // too short.
@@ -17,22 +15,6 @@ pub enum Readable {
     Long,
     Odd,
     Short,
-}
-
-// Makes the trie of the two names `true` and `fail`, of 9 nodes, if the tables have room for it.
-pub fn reserve(cells: &mut [u8], heads: &mut [u8], nexts: &mut [u8]) -> bool
-    ensures { λ r. ⌜ Begun (triples (now (cells .entry))) (shorts (now (heads .entry))) (shorts (now (nexts .entry))) (triples (now (cells .exit))) (shorts (now (heads .exit))) (shorts (now (nexts .exit))) r ⌝ }
-{
-    if !names::start(cells, heads, nexts) {
-        return false;
-    }
-    let Child::At(_four, m) = names::intern(b"true", 0, 4, cells, heads, nexts, 1) else {
-        return false;
-    };
-    let Child::At(_eight, _nine) = names::intern(b"fail", 0, 4, cells, heads, nexts, m) else {
-        return false;
-    };
-    true
 }
 
 // Whether a text is a query.

@@ -14,7 +14,8 @@ use Rattle.phrases.specs.Codes.{opOf}
 use Rattle.pieces.specs.Reads.{Piece, some-others, ReadTo, Finished}
 use Rattle.pieces.specs.declared.Read.{Read}
 use Rattle.pieces.specs.declared.Read.the-variants.{Done}
-use Rattle.reader.specs.Binding.{Answer, Operates, Mixes}
+use Rattle.reader.specs.Answers.{Answer}
+use Rattle.operators.specs.Binding.{Operates, Mixes}
 
 -- the answer of a function of the reader is known
 pub answer-to : {p : Piece} {query : Bool} {L B S Q D : List ℕ} {O : List Word} {at k q level depth : ℕ} {B′ S′ Q′ : List ℕ} {O′ : List Word} {r : Read} (s : Read) → Answer p query L B S Q D O at k q level depth B′ S′ Q′ O′ r → r ≡ s → ReadTo p query L B S Q D O at k q level depth B′ S′ Q′ O′ s

@@ -23,7 +23,7 @@ use Rattle.pieces.specs.declared.Read.the-variants.{Done, Three, Odd, Full}
 use Rattle.pieces.proofs.Statements.{Joining, joining-start, joining-can, joining-comma, joining-ended, joining-short, joining-odd, joining-full, joining-three, joining-no-slot}
 use Rattle.pieces.proofs.Simples.{simple-done, simple-unclosed, simple-odd, simple-full, simple-deep, simple-three}
 use Rattle.pieces.proofs.Others.{Adding, adding-start, adding-ended, adding-can, adding-more, adding-odd, adding-full, adding-three}
-use Rattle.reader.specs.Binding.{Answer}
+use Rattle.reader.specs.Answers.{Answer}
 
 -- an answer that is known
 pub as-done : {p : Piece} {query : Bool} {L B S Q D : List ℕ} {O : List Word} {at k q level depth : ℕ} {B′ S′ Q′ : List ℕ} {O′ : List Word} {r : Read} {a k′ q′ f : ℕ} → Answer p query L B S Q D O at k q level depth B′ S′ Q′ O′ r → r ≡ Done a k′ q′ f → Finished p query L B S Q D O at k q level depth B′ S′ Q′ O′ a k′ q′ f

@@ -2,54 +2,17 @@
 // remaining tokens falling, and no deeper than brackets may nest. A text is known to be of the grammar before it is read
 // (crate grammar), so that brackets too deep, too many arguments or too many query variables end the reading at once: no
 // lower refusal can be due.
-ghost use mathlib.Core.Path.{_≡_};
-ghost use Prim.Native.Nat.{_<_};
 ghost use Rattle.numbers.specs.Numbers.{shorts, triples};
 ghost use Rattle.words.specs.Words.{words};
 ghost use Rattle.phrases.specs.Codes.{opOf};
 ghost use Rattle.pieces.specs.Reads.{a-statement, a-simple, a-bracket, a-clause, some-others, CanRead};
-ghost use Rattle.reader.specs.Binding.{Answer, twiceNo, Operates, Mixes, CanClause};
+ghost use Rattle.reader.specs.Answers.{Answer, CanClause};
 use emits::Emitted;
 use phrases::Phrase;
 use phrases::Simple;
 use pieces::Read;
-use scopes::Binding;
 use words::Sort;
 use words::Word;
-
-// The refusal that a hidden list gives: 4 for a name that is there twice, 8 for none; 0 where there was no room to bind it.
-fn twice(b: Binding) -> usize
-    ensures { λ r. ⌜ r ≡ twiceNo b ⌝ }
-{
-    match b {
-        Binding::Apart => 8,
-        Binding::Twice => 4,
-        Binding::Full => 0,
-    }
-}
-
-// Whether a kind is that of an operator.
-fn operates(kind: usize) -> bool
-    ensures { λ r. ⌜ Operates kind r ⌝ }
-{
-    if kind < 11 {
-        return false;
-    }
-    if 13 < kind {
-        return false;
-    }
-    true
-}
-
-// The refusal that a clause's operator gives: 7 where it is not that of the first clause.
-fn mixes(kind: usize, first: usize) -> usize
-    ensures { λ r. ⌜ Mixes kind first r ⌝ }
-{
-    if kind == first {
-        return 8;
-    }
-    7
-}
 
 // Simple statements joined by commas. Before each is a slot for the composition that a comma behind it makes.
 pub fn statement(
@@ -154,7 +117,7 @@ fn simple(
     requires { ⌜ CanRead (triples (now codes)) (shorts (now binds)) (shorts (now saves)) (shorts (now order)) (triples (now heads)) (words (now out)) at k q level ⌝ }
     ensures { λ r. ⌜ Answer a-simple query (triples (now (codes .entry))) (shorts (now (binds .entry))) (shorts (now (saves .entry))) (shorts (now (order .entry))) (triples (now (heads .entry))) (words (now (out .entry))) at k q level depth (shorts (now (binds .exit))) (shorts (now (saves .exit))) (shorts (now (order .exit))) (words (now (out .exit))) r ⌝ }
 {
-    let s = phrases::simple_at(codes, at);
+    let s = simples::simple_at(codes, at);
     match s {
         Simple::Atom { kind, rest } => {
             atoms::constraint(codes, query, out, binds, order, kind, rest, k, q)
@@ -247,7 +210,7 @@ fn bracket(
             if !pieces::slots(out, k) {
                 return Read::Full;
             }
-            let g = twice(scopes::bind(codes, at, count, binds, saves, level, level));
+            let g = operators::twice(scopes::bind(codes, at, count, binds, saves, level, level));
             if g == 0 {
                 return Read::Full;
             }
@@ -273,7 +236,7 @@ fn bracket(
                     fault,
                 } => {
                     let op = phrases::kind_at(codes, a);
-                    if !operates(op) {
+                    if !operators::operates(op) {
                         scopes::unbind(codes, at, count, binds, saves, level);
                         if count == 0 {
                             return Read::Done {
@@ -472,7 +435,7 @@ fn clause(
             if !pieces::open_clause(out, k, count) {
                 return Read::Full;
             }
-            let g = twice(scopes::bind(codes, at, count, binds, saves, level, level));
+            let g = operators::twice(scopes::bind(codes, at, count, binds, saves, level, level));
             if g == 0 {
                 return Read::Full;
             }
@@ -498,7 +461,7 @@ fn clause(
                     fault,
                 } => {
                     let op = phrases::kind_at(codes, a);
-                    if !operates(op) {
+                    if !operators::operates(op) {
                         return Read::Odd;
                     }
                     let t = statement(
@@ -528,7 +491,7 @@ fn clause(
                             scopes::unbind(codes, at, count, binds, saves, level);
                             let both = pieces::lower(fault, then);
                             let own = pieces::lower(g, both);
-                            let m = mixes(op, kind);
+                            let m = operators::mixes(op, kind);
                             let low = pieces::lower(own, m);
                             Read::Done {
                                 at: b,

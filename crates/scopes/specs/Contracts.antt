@@ -1,16 +1,13 @@
 -- What the functions promise. Assumes nothing.
-use mathlib.Core.Path.{_≡_, ap, sym, _∙_}
+use mathlib.Core.Path.{_≡_, ap, _∙_}
 use mathlib.Core.List.{List}
 use mathlib.Core.Bool.{Bool, true, false}
 use Prim.Native.Nat.{ℕ, _+_, _*_, _/_, _<_, _≤_}
 use native.Mathlib.Omega.{arith}
-use native.Mathlib.Decide.{ℕ-discrete}
 use lib.ListN.{length, getD}
 use Rattle.scopes.specs.Scopes.{Bindings, CanEnter, CanLeave, takenBack, taken-same}
 use Rattle.scopes.specs.declared.Binding.{Binding}
 use Rattle.scopes.specs.declared.Binding.the-variants.{Apart, Twice, Full}
-use Rattle.scopes.specs.declared.Found.{Found}
-use Rattle.scopes.specs.declared.Found.the-variants.{At, Absent}
 
 -- what may be bound
 pub record CanBind (L : List ℕ) (first count : ℕ) (B : List ℕ) (level : ℕ) : Type 0 where
@@ -40,25 +37,6 @@ pub record CanUnbind (L : List ℕ) (first count : ℕ) (B S : List ℕ) (n : �
 pub record Unbound (L : List ℕ) (first count : ℕ) (B S : List ℕ) (n : ℕ) (B′ : List ℕ) : Type 0 where
   pub list : B′ ≡ takenBack L first count B S n
   pub long : length B′ ≡ length B
-
--- i is the first position of id among the first k numbers
-pub record FirstAt (O : List ℕ) (k id i : ℕ) : Type 0 where
-  pub inside : i < k
-  pub is : getD O i 0 ≡ id
-  pub earlier : (j : ℕ) → j < i → getD O j 0 ≡ id → ⊥
-
--- What `number_of` promises of its answer.
-abbrev pub FoundAt : List ℕ → ℕ → ℕ → Found → Type 0
-FoundAt O k id (At i) = FirstAt O k id i
-FoundAt O k id Absent = (j : ℕ) → j < k → getD O j 0 ≡ id → ⊥
-
--- the search goes one further
-pub not-yet : (O : List ℕ) (id i : ℕ) → ((j : ℕ) → j < i → getD O j 0 ≡ id → ⊥) → (getD O i 0 ≡ id → ⊥) → (j : ℕ) → j < i + 1 → getD O j 0 ≡ id → ⊥
-not-yet O id i h n j l e = go (ℕ-discrete j i)
-  where
-    go : Dec (j ≡ i) → ⊥
-    go (yes q) = n (ap (λ (m : ℕ). getD O m 0) (sym q) ∙ e)
-    go (no q) = h j (omega arith) e
 
 -- each name of the list may be bound, when its time comes
 pub can-enter : {L : List ℕ} {first count : ℕ} {B S : List ℕ} {n level j : ℕ} {B′ S′ : List ℕ} {twice : Bool} → CanBind L first count B level → Bindings L first j B S n level B′ S′ twice → j < count → n + count ≤ length S → CanEnter L (first + 2 * j) B′ S′ (n + j) (level + j + 1)

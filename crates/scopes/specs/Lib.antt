@@ -1,4 +1,3 @@
-pub mod Places
 pub mod Scopes
 pub mod Contracts
 pub mod Spelled

@@ -10,7 +10,7 @@ use lib.ListN.{length, getD, set, length-append, replicate}
 use lib.Seq.{set-set, set-getD}
 use Rattle.numbers.specs.Numbers.{shorts, zero-shorts}
 use Rattle.numbers.specs.Stored.{Stored, stored-same, stored-other}
-use Rattle.scopes.specs.Places.{ids, place, among, repeated, ids-none, ids-more, length-ids, place-none, place-le, place-new, place-old, inner-among, outer-among, repeated-more, repeated-none}
+use Rattle.lookups.specs.Places.{ids, place, among, repeated, ids-none, ids-more, length-ids, place-none, place-le, place-new, place-old, inner-among, outer-among, repeated-more, repeated-none}
 
 -- The table B says where each name stands among the names E, outermost first.
 pub record Bound (B E : List ℕ) : Type 0 where

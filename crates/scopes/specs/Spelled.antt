@@ -13,11 +13,11 @@ use borrow.Author.Tests.{eqb-true, eqb-false, eq-eqb}
 use Rattle.constraint.specs.Constraint.{In}
 use Rattle.akl.specs.Base.{Name, same, any, repeats, first, last, if, _>>=_}
 use Rattle.akl.specs.Base as akl
-use Rattle.scopes.specs.Places.{ids, behind, place, among, repeated}
+use Rattle.lookups.specs.Places.{ids, behind, place, among, repeated}
 use Rattle.scopes.specs.Scopes.{Bound}
-use Rattle.scopes.specs.Contracts.{FirstAt, FoundAt}
-use Rattle.scopes.specs.declared.Found.{Found}
-use Rattle.scopes.specs.declared.Found.the-variants.{At, Absent}
+use Rattle.lookups.specs.Finding.{FirstAt, FoundAt}
+use Rattle.lookups.specs.declared.Found.{Found}
+use Rattle.lookups.specs.declared.Found.the-variants.{At, Absent}
 
 -- w spells x otherwise than each other number of l
 abbrev pub Own : (ℕ → Name) → ℕ → List ℕ → Type 0

@@ -1,24 +1,17 @@
 // What a variable's name stands for. Names are numbers; the name of a token's code is the code / 256. `binds` has two bytes for
 // each name: 0 where it is not bound, else 1 + the position of its last occurrence among the names bound, outermost first.
 ghost use mathlib.Core.Path.{_≡_};
-ghost use Prim.Native.Nat.{_/_, _<_, _≤_};
-ghost use lib.ListN.{length, getD, take};
+ghost use Prim.Native.Nat.{_/_, _<_};
+ghost use lib.ListN.{length, getD};
 ghost use Rattle.numbers.specs.Numbers.{shorts, triples};
-ghost use Rattle.scopes.specs.Places.{among};
 ghost use Rattle.scopes.specs.Scopes.{CanEnter, Entered, CanLeave, Left};
-ghost use Rattle.scopes.specs.Contracts.{CanBind, BindTo, CanUnbind, Unbound, FoundAt};
+ghost use Rattle.scopes.specs.Contracts.{CanBind, BindTo, CanUnbind, Unbound};
 
 // The names of a list are bound, and are apart or one is there twice; or there was no room to save what was bound.
 pub enum Binding {
     Apart,
     Twice,
     Full,
-}
-
-// A position, or there is none.
-pub enum Found {
-    At(usize),
-    Absent,
 }
 
 // The name of the token at `i`.
@@ -98,44 +91,4 @@ pub fn unbind(codes: &[u8], first: usize, count: usize, binds: &mut [u8], saves:
         let j = count - k;
         leave(codes, first + 2 * j, binds, saves, n + j);
     }
-}
-
-// The value of the name `id`; 0 where the table has none.
-pub fn level_of(binds: &[u8], id: usize) -> usize
-    ensures { λ r. ⌜ r ≡ getD (shorts (now (binds .entry))) id 0 ⌝ }
-{
-    if id < numbers::short_count(binds) {
-        return numbers::short_get(binds, id);
-    }
-    0
-}
-
-// The first position of `id` among the first `k` numbers of `order`.
-pub fn number_of(order: &[u8], k: usize, id: usize) -> Found
-    requires { ⌜ k ≤ length (shorts (now order)) ⌝ }
-    ensures { λ r. ⌜ FoundAt (shorts (now (order .entry))) k id r ⌝ }
-{
-    let mut i = 0;
-    while i < k {
-        if numbers::short_get(order, i) == id {
-            return Found::At(i);
-        }
-        i += 1;
-    }
-    Found::Absent
-}
-
-// Whether `head` is among the first `k` numbers of `heads`.
-pub fn listed(heads: &[u8], k: usize, head: usize) -> bool
-    requires { ⌜ k ≤ length (triples (now heads)) ⌝ }
-    ensures { λ r. ⌜ r ≡ among head (take k (triples (now (heads .entry)))) ⌝ }
-{
-    let mut m = 0;
-    while m < k {
-        if numbers::triple_get(heads, m) == head {
-            return true;
-        }
-        m += 1;
-    }
-    false
 }

@@ -69,7 +69,7 @@ fn read_number(s: &[u8], at: Cursor, follows: u8) -> Number
             return Number::Nothing; // nothing follows
         }
         let b = s[i];
-        let more = tokens::is_digit(b);
+        let more = bytes::is_digit(b);
         if more {
             n = with_digit(n, b);
             i += 1;

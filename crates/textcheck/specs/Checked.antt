@@ -11,7 +11,7 @@ use Rattle.akl.specs.Token.{Token, tokens}
 use Rattle.numbers.specs.Numbers.{shorts, triples, length-shorts, length-triples}
 use Rattle.readable.specs.declared.Readable.{Readable}
 use Rattle.readable.specs.declared.Readable.the-variants.{Yes, Long, Odd, Short}
-use Rattle.readable.specs.Lexicon.{Lexicon, Begins, Begun}
+use Rattle.lexicon.specs.Lexicon.{Lexicon, Begins, Begun}
 use Rattle.readable.specs.Texts.{Answered}
 
 -- `limit` is the most bytes that a text may have, `parse` what its tokens are by the grammar.

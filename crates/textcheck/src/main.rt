@@ -52,7 +52,7 @@ fn query(text: &[u8]) -> Readable
     let mut heads = links_space();
     let mut nexts = links_space();
     let mut stack = stack_space();
-    if !readable::reserve(&mut cells, &mut heads, &mut nexts) {
+    if !lexicon::reserve(&mut cells, &mut heads, &mut nexts) {
         return Readable::Short;
     }
     readable::query_text(
@@ -74,7 +74,7 @@ fn program(text: &[u8]) -> Readable
     let mut heads = links_space();
     let mut nexts = links_space();
     let mut stack = stack_space();
-    if !readable::reserve(&mut cells, &mut heads, &mut nexts) {
+    if !lexicon::reserve(&mut cells, &mut heads, &mut nexts) {
         return Readable::Short;
     }
     readable::program_text(

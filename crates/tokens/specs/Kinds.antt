@@ -6,8 +6,6 @@ use Rattle.akl.specs.Base.{if}
 use Rattle.akl.specs.Limits.{name-bytes}
 use Rattle.akl.specs.Syntax.{wait, cond, commit}
 use Rattle.akl.specs.Token as akl
-use Rattle.tokens.specs.declared.Class.{Class}
-use Rattle.tokens.specs.declared.Class.the-variants.{Small, Capital, Digit, Underscore, Blank, Mark, Other}
 use Rattle.tokens.specs.declared.Kind.{Kind}
 use Rattle.tokens.specs.declared.Kind.the-variants.{Name, Digits, Variable, OpenBracket, CloseBracket, Comma, FullStop, Colon, Defines, Equals, Semicolon, Wait, Cond, Commit}
 use Rattle.tokens.specs.declared.Sign.{Sign}
@@ -15,16 +13,6 @@ use Rattle.tokens.specs.declared.Sign.the-variants.{One, Two, NoSign}
 use Rattle.tokens.specs.declared.Cursor.{Cursor}
 use Rattle.tokens.specs.declared.Next.{Next}
 use Rattle.tokens.specs.declared.Next.the-variants.{Token, Bad}
-
--- the class that each case stands for
-abbrev pub class : Class → akl.Class
-class Small = akl.small
-class Capital = akl.capital
-class Digit = akl.digit
-class Underscore = akl.underscore
-class Blank = akl.blank
-class Mark = akl.mark
-class Other = akl.other
 
 -- the token of a kind whose bytes are w
 abbrev pub tokenOf : Kind → List ℕ → akl.Token

@@ -1,5 +1,4 @@
 pub mod Kinds
-pub mod Classes
 pub mod Runs
 pub mod Marks
 pub mod Next

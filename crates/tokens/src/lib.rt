@@ -1,22 +1,12 @@
-// Bytes to tokens: the classes of bytes, and a cursor that moves forward by whole tokens, the longest first.
+// Bytes to tokens: a cursor that moves forward by whole tokens, the longest first.
 ghost use mathlib.Core.Path.{_≡_};
 ghost use Prim.Native.Nat.{_≤_, _<_, _+_};
 ghost use lib.ListN.{length, getD};
-ghost use Rattle.akl.specs.Token.{class-of, word-class, digit-class};
-ghost use Rattle.tokens.specs.Kinds.{class, signOf, placed, spelledOf};
+ghost use Rattle.akl.specs.Token.{word-class, digit-class};
+ghost use Rattle.tokens.specs.Kinds.{signOf, placed, spelledOf};
 ghost use Rattle.tokens.specs.Runs.{Ends};
 ghost use Rattle.tokens.specs.Next.{Reads};
-
-// The classes of bytes.
-pub enum Class {
-    Small,
-    Capital,
-    Digit,
-    Underscore,
-    Blank,
-    Mark,
-    Other,
-}
+use bytes::Class;
 
 // What a token is, its bytes aside.
 pub enum Kind {
@@ -57,53 +47,6 @@ pub enum Next {
     },
     End,
     Bad,
-}
-
-// The class of a byte.
-pub fn class_of(b: u8) -> Class
-    ensures { λ r. ⌜ class r ≡ class-of b ⌝ }
-{
-    match b {
-        b'a'..=b'z' => Class::Small,
-        b'A'..=b'Z' => Class::Capital,
-        b'0'..=b'9' => Class::Digit,
-        b'_' => Class::Underscore,
-        b' ' | b'\t' | b'\n' => Class::Blank,
-        b'('..=b')' | b','..=b'.' | b':'..=b';' | b'='..=b'?' | b'|' => Class::Mark,
-        _ => Class::Other,
-    }
-}
-
-// Whether a name or a variable may go on with this byte.
-pub fn is_word(b: u8) -> bool
-    ensures { λ r. ⌜ r ≡ word-class (class-of b) ⌝ }
-{
-    let c = class_of(b);
-    match c {
-        Class::Small => true,
-        Class::Capital => true,
-        Class::Digit => true,
-        Class::Underscore => true,
-        Class::Blank => false,
-        Class::Mark => false,
-        Class::Other => false,
-    }
-}
-
-// Whether a byte is a digit.
-pub fn is_digit(b: u8) -> bool
-    ensures { λ r. ⌜ r ≡ digit-class (class-of b) ⌝ }
-{
-    let c = class_of(b);
-    match c {
-        Class::Digit => true,
-        Class::Small => false,
-        Class::Capital => false,
-        Class::Underscore => false,
-        Class::Blank => false,
-        Class::Mark => false,
-        Class::Other => false,
-    }
 }
 
 // The mark that `b` begins, where `then` is the byte behind it: the longest first.
@@ -147,7 +90,7 @@ fn word_end(s: &[u8], at: usize) -> usize
         if s.len() <= i {
             return i;
         }
-        let more = is_word(s[i]);
+        let more = bytes::is_word(s[i]);
         if more {
             i += 1;
         } else {
@@ -166,7 +109,7 @@ fn digits_end(s: &[u8], at: usize) -> usize
         if s.len() <= i {
             return i;
         }
-        let more = is_digit(s[i]);
+        let more = bytes::is_digit(s[i]);
         if more {
             i += 1;
         } else {
@@ -235,7 +178,7 @@ impl Cursor {
             if s.len() <= at {
                 return Next::End;
             }
-            let c = class_of(s[at]);
+            let c = bytes::class_of(s[at]);
             match c {
                 Class::Blank => {
                     at += 1;

@@ -36,7 +36,7 @@ pub fn against(
     if !cycles::acyclic(t, pos, cells, marks, stack, dones, a) {
         return Judged::Silent;
     }
-    let w = tells::tell(t, pos, cells, vars, olds, n, a, mid, to);
+    let w = ranges::tell(t, pos, cells, vars, olds, n, a, mid, to);
     match w {
         Told::All(m, b) => {
             let c = solver::quiet(

@@ -9,7 +9,7 @@ use Rattle.atoms.proofs.constraint.Reads as reads
 use Rattle.atoms.proofs.constraint.Lts as lts
 use Rattle.atoms.proofs.answer.Reads as answer-reads
 use Rattle.atoms.proofs.arguments.Reads as arguments-reads
-use Rattle.atoms.proofs.laid.atom.Reads as atom-reads
+use Rattle.laid.proofs.atom.Reads as atom-reads
 
 arguments-requires : tie.Need-arguments-requires
 arguments-requires c κs = search needs

@@ -6,7 +6,7 @@ use Rattle.atoms.proofs.missing.Tie as tie
 use Rattle.atoms.proofs.missing.Reads as reads
 use Rattle.atoms.proofs.missing.Lts as lts
 use Rattle.numbers.proofs.triple_count.Reads as triple-count-reads
-use Rattle.scopes.proofs.listed.Reads as listed-reads
+use Rattle.lookups.proofs.listed.Reads as listed-reads
 
 triple-count-requires : tie.Need-triple-count-requires
 triple-count-requires c κs = search needs

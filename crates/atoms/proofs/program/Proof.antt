@@ -11,7 +11,7 @@ use Rattle.atoms.proofs.program.Tie as tie
 use Rattle.atoms.proofs.program.Reads as reads
 use Rattle.atoms.proofs.program.Lts as lts
 use Rattle.atoms.proofs.answer.Reads as answer-reads
-use Rattle.atoms.proofs.laid.called.Reads as called-reads
+use Rattle.laid.proofs.called.Reads as called-reads
 use Rattle.atoms.proofs.missing.Reads as missing-reads
 
 returns : tie.Need-returns

@@ -5,14 +5,14 @@ use lib.ListN.{length, getD}
 use Rattle.numbers.specs.Numbers.{triples, length-triples}
 use Rattle.phrases.specs.Codes.{kind-inside}
 use Rattle.phrases.specs.Phrases.{ArgumentsTo}
-use Rattle.grammar.specs.Grammar.{StatementTo}
+use Rattle.statements.specs.Statements.{StatementTo}
 use Rattle.grammar.proofs.Defining.{definition-odd, definition-true, definition-fail, definition-arguments-odd, definition-undefined, definition-statement-odd, definition-unstopped, definition-whole}
 use borrow.Author.Needs.{needs}
 use Rattle.grammar.proofs.definition_end.Statement.{statement}
 use Rattle.grammar.proofs.definition_end.Tie as tie
 use Rattle.grammar.proofs.definition_end.Reads as reads
 use Rattle.grammar.proofs.definition_end.Lts as lts
-use Rattle.grammar.proofs.statement_end.Reads as statement-end-reads
+use Rattle.statements.proofs.statement_end.Reads as statement-end-reads
 use Rattle.phrases.proofs.arguments_end.Reads as arguments-end-reads
 use Rattle.phrases.proofs.kind_at.Reads as kind-at-reads
 use Rattle.phrases.proofs.number_at.Reads as number-at-reads

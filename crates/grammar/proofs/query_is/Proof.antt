@@ -4,14 +4,14 @@ use native.Mathlib.Omega.{arith}
 use lib.ListN.{length, getD}
 use Rattle.numbers.specs.Numbers.{triples, length-triples}
 use Rattle.phrases.specs.Codes.{kind-inside}
-use Rattle.grammar.specs.Grammar.{StatementTo}
-use Rattle.grammar.proofs.Stepping.{query-odd, query-unstopped, query-more, query-whole}
+use Rattle.statements.specs.Statements.{StatementTo}
+use Rattle.grammar.proofs.Querying.{query-odd, query-unstopped, query-more, query-whole}
 use borrow.Author.Needs.{needs}
 use Rattle.grammar.proofs.query_is.Statement.{statement}
 use Rattle.grammar.proofs.query_is.Tie as tie
 use Rattle.grammar.proofs.query_is.Reads as reads
 use Rattle.grammar.proofs.query_is.Lts as lts
-use Rattle.grammar.proofs.statement_end.Reads as statement-end-reads
+use Rattle.statements.proofs.statement_end.Reads as statement-end-reads
 use Rattle.numbers.proofs.triple_count.Reads as triple-count-reads
 use Rattle.phrases.proofs.kind_at.Reads as kind-at-reads
 

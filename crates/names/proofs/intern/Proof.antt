@@ -5,8 +5,9 @@ use Prim.Native.Nat.{_≤_, _+_, _-_}
 use native.Mathlib.Omega.{arith}
 use lib.ListN.{length}
 use Rattle.numbers.specs.Numbers.{shorts, triples}
-use Rattle.names.specs.Trie.{Kept}
-use Rattle.names.specs.Outcome.{Named, named-none, named-more, kept-none, kept-twice, intern-full, intern-at}
+use Rattle.nodes.specs.Trie.{Kept}
+use Rattle.names.specs.Interning.{Named, named-none, named-more, intern-full, intern-at}
+use Rattle.trie.specs.Outcome.{kept-none, kept-twice}
 use Rattle.names.proofs.intern.Statement.{statement}
 use Rattle.names.proofs.intern.Tie as tie
 

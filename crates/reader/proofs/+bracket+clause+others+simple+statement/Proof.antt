@@ -25,7 +25,7 @@ use Rattle.reader.proofs.Wrapped.{as-done, st-no-slot, st-can, st-three
 use Rattle.pieces.proofs.Scoping.{hidden-place, can-bind, inner-can, outer-can, outer-back}
 use Rattle.pieces.proofs.Clauses.{body-can, clause-no-list, clause-no-room, clause-no-saves, clause-guard-odd, clause-guard-full, clause-no-operator, clause-body-odd, clause-body-full, clause-no-end, clause-done}
 use Rattle.pieces.proofs.Threes.{clause-guard-three, clause-body-three}
-use Rattle.reader.specs.Binding.{entered, not-entered}
+use Rattle.operators.specs.Binding.{entered, not-entered}
 use Rattle.reader.proofs.Answers.{answer-to, answer-done, open-yes, open-no, slots-yes, slots-no, operates-yes, operates-no, mixes-at}
 use Rattle.pieces.specs.Slots.{ChoiceFilled}
 use Rattle.pieces.proofs.Closed.{bracket-no-list, bracket-no-room, bracket-no-saves, bracket-first-odd, bracket-first-full, bracket-plain, bracket-hiding, bracket-no-end}
@@ -56,15 +56,15 @@ use Rattle.emits.proofs.emit.Reads as emit-reads
 use Rattle.emits.proofs.ends.Reads as ends-reads
 use Rattle.phrases.proofs.hidden_end.Reads as hidden-end-reads
 use Rattle.phrases.proofs.kind_at.Reads as kind-at-reads
-use Rattle.phrases.proofs.simple_at.Reads as simple-at-reads
+use Rattle.simples.proofs.simple_at.Reads as simple-at-reads
 use Rattle.pieces.proofs.fill_choice.Reads as fill-choice-reads
 use Rattle.pieces.proofs.fill_hide.Reads as fill-hide-reads
 use Rattle.pieces.proofs.lower.Reads as lower-reads
 use Rattle.pieces.proofs.open_clause.Reads as open-clause-reads
 use Rattle.pieces.proofs.slots.Reads as slots-reads
-use Rattle.reader.proofs.mixes.Reads as mixes-reads
-use Rattle.reader.proofs.operates.Reads as operates-reads
-use Rattle.reader.proofs.twice.Reads as twice-reads
+use Rattle.operators.proofs.mixes.Reads as mixes-reads
+use Rattle.operators.proofs.operates.Reads as operates-reads
+use Rattle.operators.proofs.twice.Reads as twice-reads
 use Rattle.scopes.proofs.bind.Reads as bind-reads
 use Rattle.scopes.proofs.unbind.Reads as unbind-reads
 use Rattle.words.proofs.put.Reads as put-reads

@@ -4,7 +4,7 @@ use Prim.Native.Nat.{_-_}
 use borrow.Author.Needs.{needs}
 use native.Mathlib.Omega.{arith}
 use lib.ListN.{length}
-use Rattle.tokens.specs.Classes.{digit-byte}
+use Rattle.bytes.specs.Classes.{digit-byte}
 use Rattle.stepstext.specs.Numbers.{Digits, digits-start, digits-more, number-end, number-empty, number-large, number-other, number-at}
 use Rattle.stepstext.proofs.read_number.Statement.{statement}
 use Rattle.stepstext.proofs.read_number.Tie as tie

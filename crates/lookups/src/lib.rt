@@ -1,0 +1,53 @@
+// Numbers of names looked up in tables: the level, the first place, and whether a number is listed.
+ghost use mathlib.Core.Path.{_≡_};
+ghost use Prim.Native.Nat.{_≤_};
+ghost use lib.ListN.{length, getD, take};
+ghost use Rattle.numbers.specs.Numbers.{shorts, triples};
+ghost use Rattle.lookups.specs.Places.{among};
+ghost use Rattle.lookups.specs.Finding.{FoundAt};
+
+// A position, or there is none.
+pub enum Found {
+    At(usize),
+    Absent,
+}
+
+// The value of the name `id`; 0 where the table has none.
+pub fn level_of(binds: &[u8], id: usize) -> usize
+    ensures { λ r. ⌜ r ≡ getD (shorts (now (binds .entry))) id 0 ⌝ }
+{
+    if id < numbers::short_count(binds) {
+        return numbers::short_get(binds, id);
+    }
+    0
+}
+
+// The first position of `id` among the first `k` numbers of `order`.
+pub fn number_of(order: &[u8], k: usize, id: usize) -> Found
+    requires { ⌜ k ≤ length (shorts (now order)) ⌝ }
+    ensures { λ r. ⌜ FoundAt (shorts (now (order .entry))) k id r ⌝ }
+{
+    let mut i = 0;
+    while i < k {
+        if numbers::short_get(order, i) == id {
+            return Found::At(i);
+        }
+        i += 1;
+    }
+    Found::Absent
+}
+
+// Whether `head` is among the first `k` numbers of `heads`.
+pub fn listed(heads: &[u8], k: usize, head: usize) -> bool
+    requires { ⌜ k ≤ length (triples (now heads)) ⌝ }
+    ensures { λ r. ⌜ r ≡ among head (take k (triples (now (heads .entry)))) ⌝ }
+{
+    let mut m = 0;
+    while m < k {
+        if numbers::triple_get(heads, m) == head {
+            return true;
+        }
+        m += 1;
+    }
+    false
+}

@@ -1,0 +1,3 @@
+pub mod Spell
+pub mod Trie
+pub mod Starting

@@ -1,0 +1,3 @@
+pub mod Names
+pub mod Grows
+pub mod Outcome
