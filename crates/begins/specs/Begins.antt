@@ -2,8 +2,8 @@
 use Prim.Native.Nat.{ℕ}
 use Rattle.words.specs.declared.Word.{Word}
 use Rattle.words.specs.declared.Word.the-variants.{End, Free, Level, Num, Place, Inner, Bad}
-use Rattle.words.specs.declared.Sort.{Sort}
-use Rattle.words.specs.declared.Sort.the-variants.{Locals, Store as StoreSort, True, Fail, Eq, App, Call, Comp, Hide, Clause, AskWait, AskCond, AskCommit, NoSort}
+use Rattle.sorts.specs.declared.Sort.{Sort}
+use Rattle.sorts.specs.declared.Sort.the-variants.{Locals, Store as StoreSort, True, Fail, Eq, App, Call, Comp, Hide, Clause, AskWait, AskCond, AskCommit, NoSort}
 
 -- what a word begins: 1 for fail, 2 for an equation, 3 for an application, 0 for nothing or true
 abbrev pub beginsSort : Sort → ℕ

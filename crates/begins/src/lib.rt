@@ -1,7 +1,7 @@
 // Which constraint a word begins.
 ghost use mathlib.Core.Path.{_≡_};
 ghost use Rattle.begins.specs.Begins.{beginsOf, beginsSort};
-use words::Sort;
+use sorts::Sort;
 use words::Word;
 
 fn begins_sort(s: Sort) -> usize

@@ -8,8 +8,8 @@ use Rattle.constraint.specs.Tree.{Label}
 use Rattle.constraint.specs.Constraint.{Con, ctrue, cfail, ceq, capp, Store}
 use Rattle.words.specs.declared.Word.{Word}
 use Rattle.words.specs.declared.Word.the-variants.{End, Free, Level, Num, Place, Inner, Bad}
-use Rattle.words.specs.declared.Sort.{Sort}
-use Rattle.words.specs.declared.Sort.the-variants.{True, Fail, Eq, App}
+use Rattle.sorts.specs.declared.Sort.{Sort}
+use Rattle.sorts.specs.declared.Sort.the-variants.{True, Fail, Eq, App}
 use Rattle.fields.specs.Read.{varOf, numOf, argsOf, told, starts, begun}
 
 -- a constraint whose label is a number

@@ -34,7 +34,7 @@ fn place(marks: &mut [u8], stack: &mut [u8], dones: &mut [u8], h: usize, j: usiz
 {
     numbers::short_put(marks, j, 1);
     numbers::short_put(stack, h, j);
-    numbers::long_put(dones, h, 0);
+    longs::long_put(dones, h, 0);
 }
 
 // Goes on with a search until its stack is empty: 0 for a cycle, else the next rank.
@@ -57,8 +57,8 @@ fn drain(
     while 0 < h {
         let top = h - 1;
         let j = numbers::short_get(stack, top);
-        let i = numbers::long_get(dones, top);
-        let p = numbers::long_get(pos, j);
+        let i = longs::long_get(dones, top);
+        let p = longs::long_get(pos, j);
         let c = look(t, cells, p + 3 + i);
         match c {
             Child::Last => {
@@ -67,7 +67,7 @@ fn drain(
                 h = top;
             }
             Child::Open => {
-                numbers::long_put(dones, top, i + 1);
+                longs::long_put(dones, top, i + 1);
             }
             Child::Bound(b) => {
                 let m = numbers::short_get(marks, b);
@@ -78,7 +78,7 @@ fn drain(
                     if m == 1 {
                         return 0;
                     }
-                    numbers::long_put(dones, top, i + 1);
+                    longs::long_put(dones, top, i + 1);
                 }
             }
         }

@@ -38,7 +38,7 @@ pub fn fit(
     ensures { λ r. ⌜ Fit (words (now (t .entry))) from mid to (now (locals .entry)) (longs (now (pos .entry))) (triples (now (cells .entry))) (shorts (now (marks .entry))) (shorts (now (stack .entry))) (longs (now (dones .entry))) r ⌝ }
 {
     let w = words::count(t);
-    let p = numbers::long_count(pos);
+    let p = longs::long_count(pos);
     let c = numbers::triple_count(cells);
     if mid < from {
         return false;
@@ -64,7 +64,7 @@ pub fn fit(
     if numbers::short_count(stack) < p {
         return false;
     }
-    if numbers::long_count(dones) < p {
+    if longs::long_count(dones) < p {
         return false;
     }
     if locals.len() < c {

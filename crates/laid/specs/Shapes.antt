@@ -10,8 +10,8 @@ use Rattle.akl.specs.Syntax.{Var}
 use Rattle.constraint.specs.Constraint.{mapCon}
 use Rattle.words.specs.declared.Word.{Word}
 use Rattle.words.specs.declared.Word.the-variants.{End, Num, Inner}
-use Rattle.words.specs.declared.Sort.{Sort}
-use Rattle.words.specs.declared.Sort.the-variants.{True, Fail, Eq, App, Call}
+use Rattle.sorts.specs.declared.Sort.{Sort}
+use Rattle.sorts.specs.declared.Sort.the-variants.{True, Fail, Eq, App, Call}
 use Rattle.layout.specs.Layout.{var-word, vars-words, con-words}
 use Rattle.phrases.specs.Phrases.{conOf, names}
 use Rattle.phrases.specs.declared.Constraint.{Constraint}

@@ -9,8 +9,8 @@ ghost use Rattle.lookups.specs.Places.{ids};
 ghost use Rattle.laid.specs.Parts.{Tables, Inside, Parted};
 ghost use Rattle.laid.specs.Shapes.{bare-lay, lead-lay, last-lay, tail-lay, labelled-lay, same-lay, made-lay, call-lay, con-lay, varsOf, sizeOf, orVars, CanConstraint};
 use phrases::Constraint;
+use sorts::Sort;
 use varwords::Vars;
-use words::Sort;
 use words::Word;
 
 // The two words of a constraint without variables.

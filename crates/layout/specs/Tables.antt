@@ -8,8 +8,8 @@ use Rattle.akl.specs.Base.{Name}
 use Rattle.akl.specs.Syntax.{Var, Stmt, atom, call, comp, hide, choice, Clauses, no-more, clause, Def, Program}
 use Rattle.words.specs.declared.Word.{Word}
 use Rattle.words.specs.declared.Word.the-variants.{End, Free, Level, Num, Place, Inner, Bad}
-use Rattle.words.specs.declared.Sort.{Sort}
-use Rattle.words.specs.declared.Sort.the-variants.{Locals, Store, True, Fail, Eq, App, Call, Comp, Hide, Clause, AskWait, AskCond, AskCommit, NoSort}
+use Rattle.sorts.specs.declared.Sort.{Sort}
+use Rattle.sorts.specs.declared.Sort.the-variants.{Locals, Store, True, Fail, Eq, App, Call, Comp, Hide, Clause, AskWait, AskCond, AskCommit, NoSort}
 
 -- Each name in it is the name of its number.
 abbrev pub SpeltCon : (Name → ℕ) → (ℕ → Name) → Con Var → Type 0

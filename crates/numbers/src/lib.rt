@@ -1,9 +1,9 @@
-// Numbers in lent bytes, the low byte first: of two bytes (shorts), three (triples) and four (longs).
+// Numbers in lent bytes, the low byte first: of two bytes (shorts) and of three (triples).
 ghost use mathlib.Core.Path.{_≡_};
 ghost use Prim.Native.Nat.{_<_};
 ghost use lib.ListN.{length, replicate};
 ghost use Rattle.numbers.specs.Stored.{Stored};
-ghost use Rattle.numbers.specs.Numbers.{shorts, triples, longs, Got, CanPut, Counted};
+ghost use Rattle.numbers.specs.Numbers.{shorts, triples, Got, CanPut, Counted};
 
 // A byte as a number of the machine's width.
 pub fn wide(x: u8) -> usize
@@ -76,47 +76,6 @@ pub fn triple_put(b: &mut [u8], i: usize, v: usize)
     b[j] = (v % 256) as u8;
     b[k] = (mid % 256) as u8;
     b[l] = (top % 256) as u8;
-}
-
-// How many four-byte numbers `b` holds.
-pub fn long_count(b: &[u8]) -> usize
-    ensures { λ r. ⌜ Counted (longs (now (b .entry))) r ⌝ }
-{
-    b.len() / 4
-}
-
-// The four-byte number at `i`.
-pub fn long_get(b: &[u8], i: usize) -> usize
-    requires { ⌜ i < length (longs (now b)) ⌝ }
-    ensures { λ r. ⌜ Got (longs (now (b .entry))) i 4294967296 r ⌝ }
-{
-    let j = 4 * i;
-    let k = j + 1;
-    let l = k + 1;
-    let m = l + 1;
-    let b0 = wide(b[j]);
-    let b1 = wide(b[k]);
-    let b2 = wide(b[l]);
-    let b3 = wide(b[m]);
-    b0 + b1 * 256 + b2 * 65536 + b3 * 16777216
-}
-
-// Writes `v` as the four-byte number at `i`.
-pub fn long_put(b: &mut [u8], i: usize, v: usize)
-    requires { ⌜ CanPut (longs (now b)) i 4294967296 v ⌝ }
-    ensures { λ _. ⌜ Stored (longs (now (b .entry))) i v (longs (now (b .exit))) ⌝ }
-{
-    let j = 4 * i;
-    let k = j + 1;
-    let l = k + 1;
-    let m = l + 1;
-    let v1 = v / 256;
-    let v2 = v1 / 256;
-    let v3 = v2 / 256;
-    b[j] = (v % 256) as u8;
-    b[k] = (v1 % 256) as u8;
-    b[l] = (v2 % 256) as u8;
-    b[m] = (v3 % 256) as u8;
 }
 
 // Makes every byte zero. Zero bytes are zero numbers and `End` words.

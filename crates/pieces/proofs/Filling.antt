@@ -7,7 +7,7 @@ use native.Mathlib.Omega.{arith}
 use lib.ListN.{length}
 use Rattle.words.specs.declared.Word.{Word}
 use Rattle.words.specs.declared.Word.the-variants.{Num, Inner, Bad}
-use Rattle.words.specs.declared.Sort.the-variants.{Clause}
+use Rattle.sorts.specs.declared.Sort.the-variants.{Clause}
 use Rattle.emits.specs.Contracts.{Emits, EmitTo, NoRoom}
 use Rattle.pieces.specs.Slots.{SlotsTo, slots-made, ClauseTo, clause-opened}
 

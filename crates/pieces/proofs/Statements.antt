@@ -19,7 +19,7 @@ use Rattle.akl.specs.Parse.{after}
 use Rattle.akl.specs.Reader.{statement-faults, simple-faults, statement-free, simple-free, statement-of, simple-of}
 use Rattle.words.specs.declared.Word.{Word}
 use Rattle.words.specs.declared.Word.the-variants.{End, Inner, Bad}
-use Rattle.words.specs.declared.Sort.the-variants.{Comp}
+use Rattle.sorts.specs.declared.Sort.the-variants.{Comp}
 use Rattle.descent.specs.Descent.{the-statement, the-simple}
 use Rattle.descent.proofs.Steps.{no-more-read, read-on, statement-none, statement-single, statement-joined}
 use Rattle.phrases.specs.Codes.{kindAt, toks, kind-inside, mark-here, mark-not}

@@ -16,7 +16,7 @@ use Rattle.akl.specs.Parse as parse
 use Rattle.akl.specs.Reader.{Around, fault, mixed, same-operator, operator-of, statement-faults, simple-faults, bracket-faults, clause-faults, others-faults, statement-free, simple-free, bracket-free, clause-free, others-free, statement-of, simple-of, bracket-of, clause-of, others-of}
 use Rattle.words.specs.declared.Word.{Word}
 use Rattle.words.specs.declared.Word.the-variants.{End, Num, Inner, Bad}
-use Rattle.words.specs.declared.Sort.the-variants.{Clause as ClauseSort}
+use Rattle.sorts.specs.declared.Sort.the-variants.{Clause as ClauseSort}
 use Rattle.descent.specs.Descent.{the-statement, the-simple, the-bracket, the-others, the-clause}
 use Rattle.phrases.specs.Codes.{Known, kindAt, numberAt, toks}
 use Rattle.phrases.specs.Phrases.{Reserved}

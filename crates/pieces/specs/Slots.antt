@@ -11,8 +11,8 @@ use lib.ListN.{length, getD}
 use Rattle.numbers.specs.Stored.{Stored, stored-same, stored-other}
 use Rattle.words.specs.declared.Word.{Word}
 use Rattle.words.specs.declared.Word.the-variants.{End, Num, Inner, Bad}
-use Rattle.words.specs.declared.Sort.{Sort}
-use Rattle.words.specs.declared.Sort.the-variants.{Hide, Clause, AskWait, AskCond, AskCommit}
+use Rattle.sorts.specs.declared.Sort.{Sort}
+use Rattle.sorts.specs.declared.Sort.the-variants.{Hide, Clause, AskWait, AskCond, AskCommit}
 use Rattle.emits.specs.Out.{tight, seg, seg-none, seg-cons, Outside, outside-none, outside-more, Wrote, wrote-word, wrote-then, wrote-to, wrote-same, wrote-slots}
 use Rattle.emits.specs.Contracts.{Emits, EmitTo, NoRoom}
 

@@ -6,7 +6,7 @@ ghost use Rattle.numbers.specs.Numbers.{shorts, triples};
 ghost use Rattle.words.specs.Words.{words};
 ghost use Rattle.pieces.specs.Worst.{Lower};
 ghost use Rattle.pieces.specs.Slots.{SlotsTo, HideFilled, ChoiceFilled, askOf, ClauseTo};
-use words::Sort;
+use sorts::Sort;
 use words::Word;
 
 // What reading a piece leads to: the position behind it, that behind its words, the number of query variables, and the

@@ -8,7 +8,7 @@ use lib.ListN.{length}
 use Rattle.numbers.specs.Stored.{Stored}
 use Rattle.words.specs.declared.Word.{Word}
 use Rattle.words.specs.declared.Word.the-variants.{End, Inner, Bad}
-use Rattle.words.specs.declared.Sort.the-variants.{Comp}
+use Rattle.sorts.specs.declared.Sort.the-variants.{Comp}
 use Rattle.phrases.specs.Codes.{kindAt, opOf}
 use Rattle.phrases.specs.Phrases.{SimpleAt}
 use Rattle.phrases.specs.declared.Simple.{Simple}

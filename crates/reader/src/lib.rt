@@ -11,7 +11,7 @@ use emits::Emitted;
 use phrases::Phrase;
 use phrases::Simple;
 use pieces::Read;
-use words::Sort;
+use sorts::Sort;
 use words::Word;
 
 // Simple statements joined by commas. Before each is a slot for the composition that a comma behind it makes.

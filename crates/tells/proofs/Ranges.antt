@@ -14,8 +14,8 @@ use Rattle.constraint.proofs.Entail.{sats-append}
 use Rattle.constraint.proofs.FormSteps.{Holds}
 use Rattle.words.specs.declared.Word.{Word}
 use Rattle.words.specs.declared.Word.the-variants.{End, Free, Level, Num, Place, Inner, Bad}
-use Rattle.words.specs.declared.Sort.{Sort}
-use Rattle.words.specs.declared.Sort.the-variants.{Locals, Store as StoreSort, True, Fail, Eq, App, Call, Comp, Hide, Clause, AskWait, AskCond, AskCommit, NoSort}
+use Rattle.sorts.specs.declared.Sort.{Sort}
+use Rattle.sorts.specs.declared.Sort.the-variants.{Locals, Store as StoreSort, True, Fail, Eq, App, Call, Comp, Hide, Clause, AskWait, AskCond, AskCommit, NoSort}
 use Rattle.fields.specs.Read.{varOf, numOf, argsOf, labelAt, argsAt, termAt, tabOf, treeAt, told, starts, begun}
 use Rattle.begins.specs.Begins.{beginsOf, beginsSort}
 use Rattle.tells.specs.Tells.{oneAt, rangeOf}

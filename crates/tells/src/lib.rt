@@ -47,11 +47,11 @@ pub fn tell_one(
         }
     }
     if b == 3 {
-        if numbers::long_count(pos) <= a {
+        if longs::long_count(pos) <= a {
             return Told::NoRoom(n, a);
         }
         let k = a + 1;
-        numbers::long_put(pos, a, i);
+        longs::long_put(pos, a, i);
         let z = fields::var_of(fields::peek(t, j));
         let v = takes::apply(t, pos, cells, vars, olds, n, z, a);
         match v {

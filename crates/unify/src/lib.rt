@@ -26,8 +26,8 @@ pub fn hold(
         if j == k {
             return Went::On(n);
         }
-        let p = numbers::long_get(pos, k);
-        let q = numbers::long_get(pos, j);
+        let p = longs::long_get(pos, k);
+        let q = longs::long_get(pos, j);
         return meets::meet(t, cells, vars, olds, n, p, q);
     }
     if !trails::roomy(vars, olds, n) {

@@ -18,6 +18,6 @@ pub fn view_of(pos: &[u8], cells: &[u8], x: usize) -> View
     if c % 4 != 2 {
         return View::Unbound(r);
     }
-    let p = numbers::long_get(pos, c / 256);
+    let p = longs::long_get(pos, c / 256);
     View::Bound(r, p)
 }

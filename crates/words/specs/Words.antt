@@ -12,7 +12,7 @@ use Rattle.numbers.specs.Stored.{Stored}
 use Rattle.numbers.specs.Numbers.{value, valueAt, stores, length-read, getD-read, stored-read, length-stores, zero-byte}
 use Rattle.words.specs.declared.Word.{Word}
 use Rattle.words.specs.declared.Word.the-variants.{End, Free, Level, Num, Place, Inner, Bad}
-use Rattle.words.specs.Shapes.{pick, pick-past, kindOf, sortOf, kindNo, sortNo, kind-of-no, sort-of-no, kind-small, sort-small}
+use Rattle.sorts.specs.Shapes.{pick, pick-past, kindOf, sortOf, kindNo, sortNo, kind-of-no, sort-of-no, kind-small, sort-small}
 
 -- the word of a class and a value
 abbrev pub word : ℕ → ℕ → Word

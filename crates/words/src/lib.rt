@@ -4,38 +4,9 @@ ghost use Prim.Native.Nat.{_<_};
 ghost use lib.ListN.{length};
 ghost use Rattle.numbers.specs.Stored.{Stored};
 ghost use Rattle.numbers.specs.Numbers.{Counted};
-ghost use Rattle.words.specs.Shapes.{kindOf, sortOf, kindNo, sortNo};
 ghost use Rattle.words.specs.Words.{words, word, classOf, valueOf, Read, CanWrite};
-
-// The shapes that are places of a configuration.
-pub enum Kind {
-    Or,
-    And,
-    Guarded,
-    Member,
-    Wait,
-    Cond,
-    Commit,
-    NoKind,
-}
-
-// The other shapes that open a bracket: locals, stores, constraints and statements.
-pub enum Sort {
-    Locals,
-    Store,
-    True,
-    Fail,
-    Eq,
-    App,
-    Call,
-    Comp,
-    Hide,
-    Clause,
-    AskWait,
-    AskCond,
-    AskCommit,
-    NoSort,
-}
+use sorts::Kind;
+use sorts::Sort;
 
 // A word closes a bracket, is a variable, a bound variable's level or a number, or opens a bracket. Bytes that are none of
 // these read as `Bad`.
@@ -49,82 +20,6 @@ pub enum Word {
     Bad,
 }
 
-// The kind of a number.
-pub fn kind_of(v: usize) -> Kind
-    ensures { λ r. ⌜ r ≡ kindOf v ⌝ }
-{
-    match v {
-        0 => Kind::Or,
-        1 => Kind::And,
-        2 => Kind::Guarded,
-        3 => Kind::Member,
-        4 => Kind::Wait,
-        5 => Kind::Cond,
-        6 => Kind::Commit,
-        _ => Kind::NoKind,
-    }
-}
-
-// The sort of a number.
-pub fn sort_of(v: usize) -> Sort
-    ensures { λ r. ⌜ r ≡ sortOf v ⌝ }
-{
-    match v {
-        0 => Sort::Locals,
-        1 => Sort::Store,
-        2 => Sort::True,
-        3 => Sort::Fail,
-        4 => Sort::Eq,
-        5 => Sort::App,
-        6 => Sort::Call,
-        7 => Sort::Comp,
-        8 => Sort::Hide,
-        9 => Sort::Clause,
-        10 => Sort::AskWait,
-        11 => Sort::AskCond,
-        12 => Sort::AskCommit,
-        _ => Sort::NoSort,
-    }
-}
-
-// The number of a kind.
-pub fn kind_no(k: Kind) -> usize
-    ensures { λ r. ⌜ (r ≡ kindNo k) × (r < 8) ⌝ }
-{
-    match k {
-        Kind::Or => 0,
-        Kind::And => 1,
-        Kind::Guarded => 2,
-        Kind::Member => 3,
-        Kind::Wait => 4,
-        Kind::Cond => 5,
-        Kind::Commit => 6,
-        Kind::NoKind => 7,
-    }
-}
-
-// The number of a sort.
-pub fn sort_no(s: Sort) -> usize
-    ensures { λ r. ⌜ (r ≡ sortNo s) × (r < 16) ⌝ }
-{
-    match s {
-        Sort::Locals => 0,
-        Sort::Store => 1,
-        Sort::True => 2,
-        Sort::Fail => 3,
-        Sort::Eq => 4,
-        Sort::App => 5,
-        Sort::Call => 6,
-        Sort::Comp => 7,
-        Sort::Hide => 8,
-        Sort::Clause => 9,
-        Sort::AskWait => 10,
-        Sort::AskCond => 11,
-        Sort::AskCommit => 12,
-        Sort::NoSort => 13,
-    }
-}
-
 // The word of a class and a value.
 fn make(k: usize, v: usize) -> Word
     ensures { λ r. ⌜ r ≡ word k v ⌝ }
@@ -135,11 +30,11 @@ fn make(k: usize, v: usize) -> Word
         2 => Word::Level(v),
         3 => Word::Num(v),
         4 => {
-            let p = kind_of(v);
+            let p = sorts::kind_of(v);
             Word::Place(p)
         }
         5 => {
-            let s = sort_of(v);
+            let s = sorts::sort_of(v);
             Word::Inner(s)
         }
         _ => Word::Bad,
@@ -170,8 +65,8 @@ pub fn value_of(w: Word) -> usize
         Word::Free(v) => v,
         Word::Level(v) => v,
         Word::Num(v) => v,
-        Word::Place(k) => kind_no(k),
-        Word::Inner(s) => sort_no(s),
+        Word::Place(k) => sorts::kind_no(k),
+        Word::Inner(s) => sorts::sort_no(s),
         Word::Bad => 0,
     }
 }

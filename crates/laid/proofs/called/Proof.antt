@@ -2,7 +2,7 @@ use native.Mathlib.Omega.{arith}
 use borrow.Author.Tests.{not-true, not-false}
 use Rattle.words.specs.Words.{length-words}
 use Rattle.words.specs.declared.Word.the-variants.{Inner}
-use Rattle.words.specs.declared.Sort.the-variants.{Call}
+use Rattle.sorts.specs.declared.Sort.the-variants.{Call}
 use Rattle.pieces.specs.Slots.{emit-yes, emit-no}
 use Rattle.laid.specs.Shapes.{called-on, tables-word}
 use borrow.Author.Needs.{needs}

@@ -1,6 +1,6 @@
 use native.Mathlib.Omega.{arith}
 use Rattle.words.specs.Words.{length-words}
-use Rattle.words.specs.Shapes.{sort-small}
+use Rattle.sorts.specs.Shapes.{sort-small}
 use Rattle.pieces.specs.Slots.{choice-filled}
 use borrow.Author.Needs.{needs}
 use Rattle.pieces.proofs.fill_choice.Statement.{statement}

@@ -4,7 +4,7 @@ use native.Mathlib.Omega.{arith}
 use borrow.Author.Tests.{not-true, not-false}
 use Rattle.words.specs.Words.{length-words}
 use Rattle.words.specs.declared.Word.the-variants.{Inner}
-use Rattle.words.specs.declared.Sort.the-variants.{Clause}
+use Rattle.sorts.specs.declared.Sort.the-variants.{Clause}
 use Rattle.pieces.specs.Slots.{emit-yes, emit-no}
 use Rattle.pieces.proofs.Filling.{clause-none, clause-last}
 use borrow.Author.Needs.{needs}

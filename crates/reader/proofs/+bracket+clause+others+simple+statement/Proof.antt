@@ -10,7 +10,7 @@ use Rattle.numbers.specs.Numbers.{shorts, triples, length-triples, length-short
 use Rattle.words.specs.Words.{words, length-words}
 use Rattle.words.specs.declared.Word.{Word}
 use Rattle.words.specs.declared.Word.the-variants.{End, Inner, Bad}
-use Rattle.words.specs.declared.Sort.the-variants.{Comp}
+use Rattle.sorts.specs.declared.Sort.the-variants.{Comp}
 use Rattle.phrases.specs.Codes.{kindAt, kind-inside, opOf}
 use Rattle.phrases.specs.Phrases.{HiddenTo, SimpleAt}
 use Rattle.emits.specs.Contracts.{EndsTo}

@@ -7,8 +7,8 @@ use Rattle.words.proofs.make.Statement.{statement}
 use Rattle.words.proofs.make.Tie as tie
 use Rattle.words.proofs.make.Reads as reads
 use Rattle.words.proofs.make.Lts as lts
-use Rattle.words.proofs.kind_of.Reads as kind-of-reads
-use Rattle.words.proofs.sort_of.Reads as sort-of-reads
+use Rattle.sorts.proofs.kind_of.Reads as kind-of-reads
+use Rattle.sorts.proofs.sort_of.Reads as sort-of-reads
 
 kind-of-requires : tie.Need-kind-of-requires
 kind-of-requires c κs = search needs

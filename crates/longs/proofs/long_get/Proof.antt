@@ -1,10 +1,10 @@
 use Prim.Native.Nat.{_-_}
 use native.Mathlib.Omega.{arith}
 use lib.ListN.{length}
 use Rattle.numbers.specs.Numbers.{length-longs, getD-longs}
 use borrow.Author.Needs.{needs}
-use Rattle.numbers.proofs.long_get.Statement.{statement}
-use Rattle.numbers.proofs.long_get.Tie as tie
+use Rattle.longs.proofs.long_get.Statement.{statement}
+use Rattle.longs.proofs.long_get.Tie as tie
 
 mul-j : tie.Need-mul-j
 mul-j c = omega (arith, length-longs (c .before .args .b .now))

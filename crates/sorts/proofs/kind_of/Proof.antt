@@ -1,10 +1,10 @@
 use borrow.Author.Needs.{needs}
 use native.Mathlib.Omega.{arith}
-use Rattle.words.specs.Shapes.{kind-rest}
-use Rattle.words.proofs.kind_of.Statement.{statement}
-use Rattle.words.proofs.kind_of.Tie as tie
-use Rattle.words.proofs.kind_of.Reads as reads
-use Rattle.words.proofs.kind_of.Lts as lts
+use Rattle.sorts.specs.Shapes.{kind-rest}
+use Rattle.sorts.proofs.kind_of.Statement.{statement}
+use Rattle.sorts.proofs.kind_of.Tie as tie
+use Rattle.sorts.proofs.kind_of.Reads as reads
+use Rattle.sorts.proofs.kind_of.Lts as lts
 
 returns : tie.Need-returns
 returns c = search needs

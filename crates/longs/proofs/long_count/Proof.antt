@@ -2,9 +2,9 @@ use mathlib.Core.Path.{sym}
 use Prim.Native.Nat.{_-_}
 use native.Mathlib.Omega.{arith}
 use lib.ListN.{length}
 use Rattle.numbers.specs.Numbers.{length-longs}
-use Rattle.numbers.proofs.long_count.Statement.{statement}
-use Rattle.numbers.proofs.long_count.Tie as tie
+use Rattle.longs.proofs.long_count.Statement.{statement}
+use Rattle.longs.proofs.long_count.Tie as tie
 
 returns : tie.Need-returns
 returns c = record { is = sym (length-longs _); small = omega arith }

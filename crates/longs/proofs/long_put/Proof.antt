@@ -3,10 +3,10 @@ use mathlib.Core.List.{[], _∷_}
 use Prim.Native.Nat.{_-_, _/_, _%_}
 use native.Mathlib.Omega.{arith}
 use lib.ListN.{length, set, length-set}
 use Rattle.numbers.specs.Numbers.{length-longs, stored-longs}
 use borrow.Author.Needs.{needs}
-use Rattle.numbers.proofs.long_put.Statement.{statement}
-use Rattle.numbers.proofs.long_put.Tie as tie
+use Rattle.longs.proofs.long_put.Statement.{statement}
+use Rattle.longs.proofs.long_put.Tie as tie
 
 mul-j : tie.Need-mul-j
 mul-j c = omega (arith, length-longs (c .args .b .now))
