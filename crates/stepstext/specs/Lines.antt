@@ -11,22 +11,17 @@ use borrow.Author.Tests.{lt-ltb, le-ltb}
 use Rattle.akl.specs.Base.{size, if, _>>=_, Result, refused, ok}
 use Rattle.akl.specs.Limits.{steps-bytes}
 use Rattle.akl.specs.StepsText as akl
+use Rattle.refusals.specs.declared.Refusal.the-variants.{TooLong, NotALine}
+use Rattle.refusals.specs.Refusals.{numberOf}
 use Rattle.tokens.specs.declared.Cursor.{Cursor}
 use Rattle.tokens.specs.Runs.{size-length}
 use Rattle.stepstext.specs.declared.Step.{Step}
-use Rattle.stepstext.specs.declared.Refusal.{Refusal}
-use Rattle.stepstext.specs.declared.Refusal.the-variants.{Long, Malformed}
 use Rattle.stepstext.specs.declared.Number.the-variants as number
 use Rattle.stepstext.specs.declared.Line.{Line}
 use Rattle.stepstext.specs.declared.Line.the-variants as line
 use Rattle.stepstext.specs.declared.Checked.{Checked}
 use Rattle.stepstext.specs.declared.Checked.the-variants as checked-text
 use Rattle.stepstext.specs.Numbers.{Moved, Numbered}
-
--- The number of a refusal in document 01's table.
-abbrev pub refusal : Refusal → ℕ
-refusal Long = 1
-refusal Malformed = 18
 
 -- The step of the definitions.
 abbrev pub step : Step → akl.Step
@@ -35,7 +30,7 @@ step t = record { rule = t .rule; place = t .place .0; argument = t .argument }
 -- What a line's answer says of the text s: the step and what is left, or a refusal.
 abbrev pub meant : List ℕ → Line → Result (akl.Step × List ℕ)
 meant s (line.At t c) = ok (step t, drop (c .0) s)
-meant s (line.Refused f) = refused (refusal f)
+meant s (line.Refused f) = refused (numberOf f)
 
 -- "18": where there is no reading
 abbrev pub outcome : {A : Type 0} → Option A → Result A
@@ -54,7 +49,7 @@ pub record LineRead (s : List ℕ) (from : ℕ) (r : Line) : Type 0 where
 -- What a text's answer says.
 abbrev pub checked : Checked → Result ℕ
 checked (checked-text.Steps n) = ok n
-checked (checked-text.Refused f) = refused (refusal f)
+checked (checked-text.Refused f) = refused (numberOf f)
 
 -- the number of steps of a text that is read
 abbrev pub counted : Result (List akl.Step) → Result ℕ
@@ -80,7 +75,7 @@ module _ (s : List ℕ) (from : ℕ) where
   unfolding first
   no-rule R = line-parts (drop from s) ∙ ap first (sym (R .says))
 
-  pub refused-rule : Numbered s from 32 number.Nothing → LineRead s from (line.Refused Malformed)
+  pub refused-rule : Numbered s from 32 number.Nothing → LineRead s from (line.Refused NotALine)
   refused-rule R = record { says = ap outcome (sym (no-rule R)); forward = tt }
 
   module _ (r : ℕ) (c : Cursor) (R : Numbered s from 32 (number.At r c)) where
@@ -92,7 +87,7 @@ module _ (s : List ℕ) (from : ℕ) where
     unfolding second
     no-place P = at-rule ∙ ap (second r) (sym (P .says))
 
-    pub refused-place : Numbered s (c .0) 32 number.Nothing → LineRead s from (line.Refused Malformed)
+    pub refused-place : Numbered s (c .0) 32 number.Nothing → LineRead s from (line.Refused NotALine)
     refused-place P = record { says = ap outcome (sym (no-place P)); forward = tt }
 
     module _ (p : ℕ) (d : Cursor) (P : Numbered s (c .0) 32 (number.At p d)) where
@@ -104,7 +99,7 @@ module _ (s : List ℕ) (from : ℕ) where
       unfolding third
       no-argument A = at-place ∙ ap (third r p) (sym (A .says))
 
-      pub refused-argument : Numbered s (d .0) 10 number.Nothing → LineRead s from (line.Refused Malformed)
+      pub refused-argument : Numbered s (d .0) 10 number.Nothing → LineRead s from (line.Refused NotALine)
       refused-argument A = record { says = ap outcome (sym (no-argument A)); forward = tt }
 
       at-argument : (a : ℕ) (e : Cursor) → Numbered s (d .0) 10 (number.At a e) → akl.line (drop from s) ≡ some (record { rule = r; place = p; argument = a }, drop (e .0) s)
@@ -126,7 +121,7 @@ total n (some ls) = ok (n + size ls)
 pub all-lines : List ℕ → Result ℕ
 all-lines s = total 0 (akl.lines (suc (size s)) s)
 
-pub too-long : (s : List ℕ) → steps-bytes < length s → checked (checked-text.Refused Long) ≡ counted (akl.read-steps s)
+pub too-long : (s : List ℕ) → steps-bytes < length s → checked (checked-text.Refused TooLong) ≡ counted (akl.read-steps s)
 unfolding akl.read-steps
 too-long s h =
     ap (λ (b : Bool). counted (if b (refused 1) (elim (akl.lines (suc (size s)) s) [ none ↦ refused 18 | some ls ↦ ok ls ])))
@@ -182,13 +177,13 @@ outcome-some none a e = absurd (let z : _≡_ {A = ℕ} 0 1 = cc in omega arith)
 outcome-some (some b) a e = cc
 
 -- a line that is not as described
-pub sofar-refused : (s : List ℕ) (at n : ℕ) → length s ≤ steps-bytes → Sofar s at n → at < length s → (f : Refusal) → LineRead s at (line.Refused f) → checked (checked-text.Refused Malformed) ≡ counted (akl.read-steps s)
+pub sofar-refused : (s : List ℕ) (at n : ℕ) → length s ≤ steps-bytes → Sofar s at n → at < length s → (f : Refusal) → LineRead s at (line.Refused f) → checked (checked-text.Refused NotALine) ≡ counted (akl.read-steps s)
 sofar-refused s at n h S g f L = sym (go (S .turns) (S .enough) (S .same)) ∙ within s h
   where
     go : (k : ℕ) → length s - at < k → all-lines s ≡ total n (akl.lines k (drop at s)) → all-lines s ≡ refused 18
     go zero l e = absurd (omega arith)
     go (suc k) l e =
-        e ∙ ap (total n) (turn s at k g ∙ ap (λ (o : Option (akl.Step × List ℕ)). o >>= λ l. akl.lines k (l .1) >>= λ ls. some (l .0 ∷ ls)) (outcome-none (akl.line (drop at s)) (refusal f) (L .says)))
+        e ∙ ap (total n) (turn s at k g ∙ ap (λ (o : Option (akl.Step × List ℕ)). o >>= λ l. akl.lines k (l .1) >>= λ ls. some (l .0 ∷ ls)) (outcome-none (akl.line (drop at s)) (numberOf f) (L .says)))
 
 -- one line more
 pub sofar-more : (s : List ℕ) (at n : ℕ) → Sofar s at n → at < length s → (t : Step) (c : Cursor) → LineRead s at (line.At t c) → Sofar s (c .0) (n + 1)

@@ -3,6 +3,7 @@ ghost use mathlib.Core.Path.{_≡_};
 ghost use Rattle.akl.specs.StepsText.{read-steps};
 ghost use Rattle.stepstext.specs.Numbers.{CanAdd, capped, Numbered};
 ghost use Rattle.stepstext.specs.Lines.{LineRead, checked, counted};
+use refusals::Refusal;
 use tokens::Cursor;
 
 // A place's number in a configuration.
@@ -13,12 +14,6 @@ pub struct Step {
     pub rule: u64,
     pub place: Place,
     pub argument: u64,
-}
-
-// Why a steps text is refused: it is too long, or some line is not as described.
-pub enum Refusal {
-    Long,
-    Malformed,
 }
 
 // A number and the position behind the byte that follows it, or no number there.
@@ -93,13 +88,13 @@ pub fn read_line(s: &[u8], at: Cursor) -> Line
     ensures { λ r. ⌜ LineRead (now (s .entry)) (at .0) r ⌝ }
 {
     let Number::At(rule, after_rule) = read_number(s, at, b' ') else {
-        return Line::Refused(Refusal::Malformed);
+        return Line::Refused(Refusal::NotALine);
     };
     let Number::At(place, after_place) = read_number(s, after_rule, b' ') else {
-        return Line::Refused(Refusal::Malformed);
+        return Line::Refused(Refusal::NotALine);
     };
     let Number::At(argument, rest) = read_number(s, after_place, b'\n') else {
-        return Line::Refused(Refusal::Malformed);
+        return Line::Refused(Refusal::NotALine);
     };
     Line::At(
         Step {
@@ -116,7 +111,7 @@ pub fn check(s: &[u8]) -> Checked
     ensures { λ r. ⌜ checked r ≡ counted (read-steps (now (s .entry))) ⌝ }
 {
     if 16384 < s.len() {
-        return Checked::Refused(Refusal::Long);
+        return Checked::Refused(Refusal::TooLong);
     }
     let mut at: usize = 0;
     let mut n: usize = 0;
@@ -125,7 +120,7 @@ pub fn check(s: &[u8]) -> Checked
             return Checked::Steps(n);
         }
         let Line::At(_, rest) = read_line(s, Cursor(at)) else {
-            return Checked::Refused(Refusal::Malformed);
+            return Checked::Refused(Refusal::NotALine);
         };
         n += 1;
         at = rest.0;
