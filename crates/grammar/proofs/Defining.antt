@@ -71,14 +71,14 @@ module _ (L S : List ℕ) (at : ℕ) where
     definition-arguments-odd a w r = from-allowed w r ∙ no-more-read (the-arguments (toks w L (at + 1))) _ (a w)
 
     module _ (rest count : ℕ) (a : ArgumentsTo L (at + 1) (To rest count)) where
-      from-arguments : (w : ℕ → Name) → Reserved w L → the-definition (toks w L at) ≡ (after defines (toks w L rest) >>= λ r. the-statement r >>= λ s. after full-stop (s .1) >>= λ v. some (record { head = w (numberAt L at); parameters = p.names w L count (at + 1 + 1); statement = s .0 }, v))
+      pub from-arguments : (w : ℕ → Name) → Reserved w L → the-definition (toks w L at) ≡ (after defines (toks w L rest) >>= λ r. the-statement r >>= λ s. after full-stop (s .1) >>= λ v. some (record { head = w (numberAt L at); parameters = p.names w L count (at + 1 + 1); statement = s .0 }, v))
       from-arguments w r = from-allowed w r ∙ read-on (the-arguments (toks w L (at + 1))) _ _ (a .reads w)
 
       pub definition-undefined : (kindAt L rest ≡ 8 → ⊥) → DefinitionTo L S at None
       definition-undefined d w r = from-arguments w r ∙ no-more-read (after defines (toks w L rest)) _ (mark-not w L rest defines d)
 
       module _ (d : kindAt L rest ≡ 8) where
-        from-defines : (w : ℕ → Name) → Reserved w L → the-definition (toks w L at) ≡ (the-statement (toks w L (rest + 1)) >>= λ s. after full-stop (s .1) >>= λ v. some (record { head = w (numberAt L at); parameters = p.names w L count (at + 1 + 1); statement = s .0 }, v))
+        pub from-defines : (w : ℕ → Name) → Reserved w L → the-definition (toks w L at) ≡ (the-statement (toks w L (rest + 1)) >>= λ s. after full-stop (s .1) >>= λ v. some (record { head = w (numberAt L at); parameters = p.names w L count (at + 1 + 1); statement = s .0 }, v))
         from-defines w r = from-arguments w r ∙ read-on (after defines (toks w L rest)) _ _ (mark-here w L rest defines d)
 
         pub definition-statement-odd : StatementTo L S (rest + 1) None → DefinitionTo L S at None

@@ -1,0 +1,4 @@
+pub mod Opens
+pub mod Parameters
+pub mod Reading
+pub mod Looping
