@@ -16,7 +16,7 @@ pub record FirstAt (O : List ℕ) (k id i : ℕ) : Type 0 where
 
 -- What `number_of` promises of its answer.
 abbrev pub FoundAt : List ℕ → ℕ → ℕ → Found → Type 0
-FoundAt O k id (At i) = FirstAt O k id i
+FoundAt O k id (At v) = FirstAt O k id (v .0)
 FoundAt O k id Absent = (j : ℕ) → j < k → getD O j 0 ≡ id → ⊥
 
 -- the search goes one further

@@ -6,9 +6,12 @@ ghost use Rattle.numbers.specs.Numbers.{shorts, triples};
 ghost use Rattle.lookups.specs.Places.{among};
 ghost use Rattle.lookups.specs.Finding.{FoundAt};
 
-// A position, or there is none.
+// A variable's number: that of a query variable is its position by first free occurrence.
+pub struct Variable(pub usize);
+
+// A variable's number, or there is none.
 pub enum Found {
-    At(usize),
+    At(Variable),
     Absent,
 }
 
@@ -30,7 +33,7 @@ pub fn number_of(order: &[u8], k: usize, id: usize) -> Found
     let mut i = 0;
     while i < k {
         if numbers::short_get(order, i) == id {
-            return Found::At(i);
+            return Found::At(Variable(i));
         }
         i += 1;
     }

@@ -128,9 +128,9 @@ absent-first w (y ∷ O) (suc k) x h n o =
 
 -- the answer of a search, as a position
 abbrev pub answer : Found → Option ℕ
-answer (At i) = some i
+answer (At v) = some (v .0)
 answer Absent = none
 
 pub number-first : (w : ℕ → Name) (O : List ℕ) (k x : ℕ) (r : Found) → k ≤ length O → FoundAt O k x r → Own w x (take k O) → first (w x) (map w (take k O)) ≡ answer r
-number-first w O k x (At i) h f o = found-first w O k x i h f o
+number-first w O k x (At v) h f o = found-first w O k x (v .0) h f o
 number-first w O k x Absent h f o = absent-first w O k x h f o

@@ -13,11 +13,13 @@ use Rattle.numbers.specs.Stored.{Stored, stored-same, stored-other}
 use Rattle.akl.specs.Base.{Name, any, once, size, among, first, last}
 use Rattle.akl.specs.Syntax.{Var, number, level}
 use Rattle.akl.specs.Reader.{variable-of, not-bound}
+use Rattle.words.specs.Words.{Small}
 use Rattle.words.specs.declared.Word.{Word}
 use Rattle.words.specs.declared.Word.the-variants.{Free, Level}
 use Rattle.layout.specs.Layout.{var-word, vars-words}
 use Rattle.lookups.specs.Places.{inner-among, outer-among}
 use Rattle.lookups.specs.Finding.{FirstAt}
+use Rattle.lookups.specs.declared.Variable.{Variable}
 use Rattle.scopes.specs.Spelled.{Own, position, among-names, level-last, in-take, found-first, absent-first}
 use Rattle.emits.specs.Out.{Wrote, wrote-word}
 use Rattle.emits.specs.Contracts.{Emits, NoRoom}
@@ -28,6 +30,13 @@ wrote-var : {O : List Word} {k : ℕ} {O′ : List Word} (v : Var) → Emits O k
 unfolding vars-words var-word
 wrote-var (number x) e = wrote-word (e .room) tt (e .stored)
 wrote-var (level l) e = wrote-word (e .room) tt (e .stored)
+
+-- the word of a query variable: it is small, and it is what was written
+pub free-small : {u : Word} {i : ℕ} → u ≡ Free i → i < 65536 → Small u
+free-small b h = subst Small (sym b) (record { value = h })
+
+free-word : {O : List Word} {k i : ℕ} {O′ : List Word} {u : Word} → u ≡ Free i → Emits O k u O′ → Emits O k (Free i) O′
+free-word {O} {k} {i} {O′} b e = subst (λ (t : Word). Emits O k t O′) b e
 
 -- ---------------------------------------------------------------------------------------------
 -- One name, spelled.
@@ -121,22 +130,22 @@ module _ {id : ℕ} {O : List Word} {k : ℕ} {B Q : List ℕ} {q : ℕ} {query 
       (λ z w E s. record { unbound = any-one (λ (x : Name). not (among x (map w E))) (w id) true (ap not (bound-no w s id (c .name) l)); wrote = subst (λ (t : Var). Wrote O k O′ (k + 1) (vars-words (t ∷ []))) (of-none w s id (c .name) l) (wrote-var (number 0) e) })
 
   -- it is not bound, in a query, and known by its number
-  pub one-found : {i : ℕ} → query ≡ true → getD B id 0 ≡ 0 → FirstAt Q q id i → Emits O k (Free i) O′ → VarsDone (id ∷ []) O k B Q q query O′ Q (k + 1) q false
+  pub one-found : {u : Word} (v : Variable) → query ≡ true → getD B id 0 ≡ 0 → FirstAt Q q id (v .0) → u ≡ Free (v .0) → Emits O k u O′ → VarsDone (id ∷ []) O k B Q q query O′ Q (k + 1) q false
   unfolding var-word
-  one-found {i} n l f e =
-      kept (number i) false e (λ z. refl)
+  one-found v n l f b e =
+      kept (number (v .0)) false (free-word b e) (λ z. refl)
       (λ z w E s.
-      let p : first (w id) (map w (take q Q)) ≡ some i = found-first w Q q id i (omega (arith, c .few, c .order)) f (own-known w s id (c .name) Q q (c .known)) in
+      let p : first (w id) (map w (take q Q)) ≡ some (v .0) = found-first w Q q id (v .0) (omega (arith, c .few, c .order)) f (own-known w s id (c .name) Q q (c .known)) in
       record {
-        known = once-found w s id (c .name) (map w (take q Q)) i l p;
-        wrote = λ qs. subst (λ (t : Var). Wrote O k O′ (k + 1) (vars-words (t ∷ []))) (of-first w s id (c .name) (map w (take q Q) ++ qs) i l (first-append (w id) (map w (take q Q)) qs i p)) (wrote-var (number i) e);
+        known = once-found w s id (c .name) (map w (take q Q)) (v .0) l p;
+        wrote = λ qs. subst (λ (t : Var). Wrote O k O′ (k + 1) (vars-words (t ∷ []))) (of-first w s id (c .name) (map w (take q Q) ++ qs) (v .0) l (first-append (w id) (map w (take q Q)) qs (v .0) p)) (wrote-var (number (v .0)) (free-word b e));
       })
       (λ z w E s. never query n z)
 
   -- it is new
-  pub one-new : {Q′ : List ℕ} → query ≡ true → getD B id 0 ≡ 0 → ((j : ℕ) → j < q → getD Q j 0 ≡ id → ⊥) → q < 16 → Stored Q q id Q′ → Emits O k (Free q) O′ → VarsDone (id ∷ []) O k B Q q query O′ Q′ (k + 1) (q + 1) false
+  pub one-new : {Q′ : List ℕ} {u : Word} → query ≡ true → getD B id 0 ≡ 0 → ((j : ℕ) → j < q → getD Q j 0 ≡ id → ⊥) → q < 16 → Stored Q q id Q′ → u ≡ Free q → Emits O k u O′ → VarsDone (id ∷ []) O k B Q q query O′ Q′ (k + 1) (q + 1) false
   unfolding var-word
-  one-new {Q′} n l f r t e =
+  one-new {Q′} n l f r t b e =
       record {
         at = omega arith;
         inside = omega (arith, e .room, e .stored .long);
@@ -156,7 +165,7 @@ module _ {id : ℕ} {O : List Word} {k : ℕ} {B Q : List ℕ} {q : ℕ} {query 
                   ∙ ap (map w) (take-suc-set Q q id (omega (arith, c .order)))
                   ∙ map-append w (take q Q) (id ∷ [])
                   ∙ once-absent w s id (c .name) (map w (take q Q)) l (absent-first w Q q id (omega (arith, c .order)) f (own-known w s id (c .name) Q q (c .known)));
-              wrote = λ qs. subst (λ (v : Var). Wrote O k O′ (k + 1) (vars-words (v ∷ []))) (of-first w s id (c .name) (map w (take (q + 1) Q′) ++ qs) q l (first-append (w id) (map w (take (q + 1) Q′)) qs q p)) (wrote-var (number q) e);
+              wrote = λ qs. subst (λ (v : Var). Wrote O k O′ (k + 1) (vars-words (v ∷ []))) (of-first w s id (c .name) (map w (take (q + 1) Q′) ++ qs) q l (first-append (w id) (map w (take (q + 1) Q′)) qs q p)) (wrote-var (number q) (free-word b e));
             };
         keeps = λ z. never query n z;
         keepsQ = λ z. never query n z;

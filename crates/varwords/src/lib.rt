@@ -1,10 +1,13 @@
 // The words of variables: a level where the name is bound; else, in a query, its number.
+ghost use mathlib.Core.Path.{_≡_};
 ghost use mathlib.Core.List.{[], _∷_};
 ghost use Rattle.numbers.specs.Numbers.{shorts, triples};
 ghost use Rattle.words.specs.Words.{words};
+ghost use Rattle.words.specs.declared.Word.the-variants.{Free};
 ghost use Rattle.lookups.specs.Places.{ids};
 ghost use Rattle.varwords.specs.Vars.{CanVar, CanVars, VarsTo};
 use lookups::Found;
+use lookups::Variable;
 use words::Word;
 
 // The words of variables are written: the position behind them, how many names are known, and whether a name is not bound. Or
@@ -17,6 +20,13 @@ pub enum Vars {
     },
     Many,
     Full,
+}
+
+// The word of a query variable.
+fn free(v: Variable) -> Word
+    ensures { λ r. ⌜ r ≡ Free (v .0) ⌝ }
+{
+    Word::Free(v.0)
 }
 
 // Writes the word of the variable `id`: its level where it is bound; else, in a query, its number among the first `q` names of
@@ -54,10 +64,11 @@ pub fn variable(
             free: true,
         };
     }
+    let next = Variable(q); // the number of a new name
     let f = lookups::number_of(order, q, id);
     match f {
-        Found::At(i) => {
-            if !emits::emit(out, k, Word::Free(i)) {
+        Found::At(v) => {
+            if !emits::emit(out, k, free(v)) {
                 return Vars::Full;
             }
             Vars::Done {
@@ -71,7 +82,7 @@ pub fn variable(
                 return Vars::Many;
             }
             numbers::short_put(order, q, id);
-            if !emits::emit(out, k, Word::Free(q)) {
+            if !emits::emit(out, k, free(next)) {
                 return Vars::Full;
             }
             Vars::Done {
