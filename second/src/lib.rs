@@ -13,6 +13,7 @@ mod edit;
 mod effects;
 mod environment;
 pub mod fuzz;
+pub mod layout;
 mod lexer;
 pub mod limits;
 pub mod names;

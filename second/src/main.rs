@@ -2,12 +2,13 @@
 
 use second::fuzz::campaign::{campaign, one, Counts, Disagreement};
 use second::fuzz::make;
+use second::layout::printed;
 use second::record::{record, run, Texts};
 use std::io::Write;
 use std::path::Path;
 use std::process::ExitCode;
 
-const USAGE: &str = "usage: second DIR | --sheet LISTFILE | --allowed DIR | \
+const USAGE: &str = "usage: second DIR | --sheet LISTFILE | --allowed DIR | --texts DIR | \
 --random SEED COUNT | --random-one SEED | --make SEED OUTDIR | \
 --make-many SEED COUNT OUTDIR | --bench";
 
@@ -17,6 +18,10 @@ fn main() -> ExitCode {
     match arguments[..] {
         ["--sheet", list] => sheet(Path::new(list)),
         ["--allowed", folder] => allowed(Path::new(folder)),
+        ["--texts", folder] => {
+            let texts = Texts::of_folder(Path::new(folder));
+            print(&printed(&texts.rules, &texts.query))
+        }
         ["--random", seed, count] => match (seed.parse(), count.parse()) {
             (Ok(seed), Ok(count)) => random(|counts| campaign(seed, count, counts)),
             _ => usage(),

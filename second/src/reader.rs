@@ -54,10 +54,14 @@ pub fn read_program(text: &[u8]) -> Result<Program, Refusal> {
 
 /// Reads a query text for a program.
 pub fn read_query(program: &Program, text: &[u8]) -> Result<Query, Refusal> {
+    read_query_for(program.clone(), text)
+}
+
+/// Reads a query text for a program, which becomes part of the result.
+pub fn read_query_for(mut program: Program, text: &[u8]) -> Result<Query, Refusal> {
     if text.len() > QUERY_BYTES {
         return Err(Refusal::TextTooLong);
     }
-    let mut program = program.clone();
     let tokens = lexer::tokens(text, &mut program.names)?;
     let (concrete, statement) = parser::query(&tokens)?;
     if concrete.counts_over {
