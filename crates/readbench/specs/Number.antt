@@ -17,10 +17,13 @@ pub record Small (a b c d e : ℕ) : Type 0 where
   pub fourth : d < 4294967296
   pub fifth : e < 4294967296
 
+abbrev pub Told : List ℕ → ℕ → ℕ → ℕ → ℕ → ℕ → List ℕ → Bool → Type 0
+Told C a b c d e C′ true = take 5 C′ ≡ (a ∷ b ∷ c ∷ d ∷ e ∷ [])
+Told C a b c d e C′ false = 5 ≤ length C → Small a b c d e → ⊥
+
 -- five numbers written to the table C; or there is no room, or one of them is too large
-abbrev pub Written : List ℕ → ℕ → ℕ → ℕ → ℕ → ℕ → List ℕ → Bool → Type 0
-Written C a b c d e C′ true = take 5 C′ ≡ (a ∷ b ∷ c ∷ d ∷ e ∷ [])
-Written C a b c d e C′ false = 5 ≤ length C → Small a b c d e → ⊥
+pub record Written (C : List ℕ) (a b c d e : ℕ) (C′ : List ℕ) (r : Bool) : Type 0 where
+  pub told : Told C a b c d e C′ r
 
 -- n is the number of an answer, and the counts of what was read are in C′
 abbrev pub Says : Inputs → List ℕ → ℕ → Type 0
@@ -34,5 +37,5 @@ pub record Answered (Right : Inputs → Type 0) (C′ : List ℕ) (n : ℕ) : Ty
   pub right : Right answer
 
 -- n is the number of an answer that is right; or 20, and C has no room for five counts
-abbrev pub Numbered : (Inputs → Type 0) → List ℕ → List ℕ → ℕ → Type 0
-Numbered Right C C′ n = ((n ≡ 20) × (length C < 5)) ⊎ Answered Right C′ n
+pub record Numbered (Right : Inputs → Type 0) (C C′ : List ℕ) (n : ℕ) : Type 0 where
+  pub meant : ((n ≡ 20) × (length C < 5)) ⊎ Answered Right C′ n
