@@ -10,7 +10,7 @@ use inputs::Inputs;
 fn counted(counts: &mut [u8], a: usize, b: usize, c: usize, d: usize, e: usize) -> bool
     ensures { λ r. ⌜ Written (longs (now (counts .entry))) a b c d e (longs (now (counts .exit))) r ⌝ }
 {
-    if numbers::long_count(counts) < 5 {
+    if longs::long_count(counts) < 5 {
         return false;
     }
     if 4294967295 < a {
@@ -28,11 +28,11 @@ fn counted(counts: &mut [u8], a: usize, b: usize, c: usize, d: usize, e: usize) 
     if 4294967295 < e {
         return false;
     }
-    numbers::long_put(counts, 0, a);
-    numbers::long_put(counts, 1, b);
-    numbers::long_put(counts, 2, c);
-    numbers::long_put(counts, 3, d);
-    numbers::long_put(counts, 4, e);
+    longs::long_put(counts, 0, a);
+    longs::long_put(counts, 1, b);
+    longs::long_put(counts, 2, c);
+    longs::long_put(counts, 3, d);
+    longs::long_put(counts, 4, e);
     true
 }
 
@@ -57,7 +57,7 @@ pub extern "C" fn texts_read(
 ) -> u32
     ensures { λ n. ⌜ Numbered (InputsTo (now (program .entry)) (now (query .entry)) (triples (now (cells .entry))) (triples (now (heads .entry))) (words (now (rules .entry))) (shorts (now (order .entry))) (words (now (goal .entry))) (triples (now (codes .entry))) (shorts (now (firsts .entry))) (shorts (now (nexts .entry))) (now (stack .entry)) (shorts (now (binds .entry))) (shorts (now (saves .entry))) (triples (now (cells .exit))) (triples (now (heads .exit))) (words (now (rules .exit))) (shorts (now (order .exit))) (words (now (goal .exit)))) (longs (now (counts .entry))) (longs (now (counts .exit))) n ⌝ }
 {
-    if numbers::long_count(counts) < 5 {
+    if longs::long_count(counts) < 5 {
         return 20;
     }
     let r = inputs::read(

@@ -11,6 +11,7 @@ use borrow.Author.Tests.{lt-ltb, le-ltb}
 use Rattle.akl.specs.Base.{size, if, _>>=_, Result, refused, ok}
 use Rattle.akl.specs.Limits.{steps-bytes}
 use Rattle.akl.specs.StepsText as akl
+use Rattle.refusals.specs.declared.Refusal.{Refusal}
 use Rattle.refusals.specs.declared.Refusal.the-variants.{TooLong, NotALine}
 use Rattle.refusals.specs.Refusals.{numberOf}
 use Rattle.tokens.specs.declared.Cursor.{Cursor}

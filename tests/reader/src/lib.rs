@@ -85,6 +85,11 @@ impl Tables {
         Tables::ample(16_384, 4_096)
     }
 
+    /// The tables that are outputs; the others are working room.
+    pub fn outputs(&self) -> impl Iterator<Item = &Vec<u8>> {
+        self.tables[CELLS..=GOAL].iter()
+    }
+
     /// Fills all tables with one byte.
     pub fn fill(&mut self, byte: u8) {
         for table in &mut self.tables {

@@ -56,7 +56,12 @@ fn agree(tables: &mut Tables, program: &[u8], query: &[u8]) -> Result<u32, Strin
         Err(format!("{what}\nprogram: {program}\nquery:   {query}"))
     };
     match laid(program, query) {
-        Err(refusal) if ours == refusal.number() => Ok(ours),
+        Err(refusal) if ours == refusal.number() => {
+            if tables.outputs().any(|table| table.iter().any(|&byte| byte != 0)) {
+                return differ(format!("refusal {ours}, but an output is not zero"));
+            }
+            Ok(ours)
+        }
         Err(refusal) => differ(format!("verified {ours}, second {}", refusal.number())),
         Ok(_) if ours != 0 => differ(format!("verified {ours}, second 0")),
         Ok(theirs) => {

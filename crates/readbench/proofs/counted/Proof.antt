@@ -64,11 +64,9 @@ long-put-requires-5 c κs = search needs
 same-length-7 : tie.Need-same-length-7
 same-length-7 c = search needs
 
--- antt refused `returns-7` as it was built: the module's report says why
 returns-7 : tie.Need-returns-7
 returns-7 c = five-stored (omega (arith, c .before .before .before .before .before .before .before .before .before .before .before .before .before .before .before .before .before .before .before .before .before .before .before .before .before .before .long-count .ensures .is)) (c .before .before .before .before .before .before .before .before .before .before .before .before .before .before .before .before .before .before .long-put .ensures) (c .before .before .before .before .before .before .before .before .before .before .before .before .before .before .long-put2 .ensures) (c .before .before .before .before .before .before .before .before .before .before .long-put3 .ensures) (c .before .before .before .before .before .before .long-put4 .ensures) (c .before .before .long-put5 .ensures)
 
--- antt refused `counted-spec` as it was built: the module's report says why
 pub counted-spec : {M : Type 1} → statement M
 counted-spec =
     tie.close

@@ -13,7 +13,6 @@ long-count-requires c κs = search needs
 same-length : tie.Need-same-length
 same-length c = search needs
 
--- antt refused `returns` as it was built: the module's report says why
 returns : tie.Need-returns
 returns c = no-room (omega (arith, c .before .long-count .ensures .is))
 
@@ -62,9 +61,8 @@ same-length-12 c = search needs
 same-length-13 : tie.Need-same-length-13
 same-length-13 c = search needs
 
--- antt refused `returns-2` as it was built: the module's report says why
 returns-2 : tie.Need-returns-2
-returns-2 c = counted-all (c .before .before .before .before .before .before .r .given .1) (c .before .before .before .before .before .before .before .before .before .before .before .before .before .before .before .before .before .before .before .before .before .before .before .before .before .before .before .before .before .before .read .ensures) (c .before .before .before .counted .ensures) (c .if2 .taken)
+returns-2 c = counted-all (c .before .before .before .before .before .before .r .given .1) (c .before .before .before .before .before .before .before .before .before .before .before .before .before .before .before .before .before .before .before .before .before .before .before .before .before .before .before .before .before .before .read .ensures .0) (c .before .before .before .counted .ensures) (c .if2 .taken)
 
 enum-known-r-2 : tie.Need-enum-known-r-2
 enum-known-r-2 c = search needs
@@ -111,9 +109,8 @@ same-length-24 c = search needs
 same-length-25 : tie.Need-same-length-25
 same-length-25 c = search needs
 
--- antt refused `returns-3` as it was built: the module's report says why
 returns-3 : tie.Need-returns-3
-returns-3 c = too-large (c .before .before .before .before .before .before .r .given .1) (c .before .before .before .before .before .before .before .before .before .before .before .before .before .before .before .before .before .before .before .before .before .before .before .before .before .before .before .before .before .before .read .ensures) (omega (arith, c .before .before .before .before .before .before .before .before .before .before .before .before .before .before .before .before .before .before .before .before .before .before .before .before .before .before .before .before .before .before .before .before .before .before .before .before .before .before .before .before .before .before .before .long-count .ensures .is, c .before .before .before .before .before .before .before .before .before .before .before .before .before .before .before .before .before .before .before .before .before .before .before .before .before .before .before .before .before .before .before .before .before .before .before .before .before .before .before .before .before .before .if1 .left)) (c .before .before .before .counted .ensures) (c .if2 .left)
+returns-3 c = too-large (c .before .before .before .before .before .before .r .given .1) (c .before .before .before .before .before .before .before .before .before .before .before .before .before .before .before .before .before .before .before .before .before .before .before .before .before .before .before .before .before .before .read .ensures .0) (omega (arith, c .before .before .before .before .before .before .before .before .before .before .before .before .before .before .before .before .before .before .before .before .before .before .before .before .before .before .before .before .before .before .before .before .before .before .before .before .before .before .before .before .before .before .before .long-count .ensures .is, c .before .before .before .before .before .before .before .before .before .before .before .before .before .before .before .before .before .before .before .before .before .before .before .before .before .before .before .before .before .before .before .before .before .before .before .before .before .before .before .before .before .before .if1 .left)) (c .before .before .before .counted .ensures) (c .if2 .left)
 
 same-length-26 : tie.Need-same-length-26
 same-length-26 c = search needs
@@ -151,9 +148,8 @@ same-length-36 c = search needs
 same-length-37 : tie.Need-same-length-37
 same-length-37 c = search needs
 
--- antt refused `returns-4` as it was built: the module's report says why
 returns-4 : tie.Need-returns-4
-returns-4 c = is-refused (c .before .before .r2 .given .1) (c .before .before .before .before .before .before .before .before .before .before .before .before .before .before .before .before .before .before .before .before .before .before .before .before .before .before .read .ensures) (c .number .ensures)
+returns-4 c = is-refused (c .before .before .r2 .given .1) (c .before .before .before .before .before .before .before .before .before .before .before .before .before .before .before .before .before .before .before .before .before .before .before .before .before .before .read .ensures .0) (c .number .ensures)
 
 same-length-38 : tie.Need-same-length-38
 same-length-38 c = search needs
@@ -191,11 +187,9 @@ same-length-48 c = search needs
 same-length-49 : tie.Need-same-length-49
 same-length-49 c = search needs
 
--- antt refused `returns-5` as it was built: the module's report says why
 returns-5 : tie.Need-returns-5
-returns-5 c = is-short (c .enum-told .given .1) (c .before .before .before .before .before .before .before .before .before .before .before .before .before .before .before .before .before .before .before .before .before .before .before .before .read .ensures)
+returns-5 c = is-short (c .enum-told .given .1) (c .before .before .before .before .before .before .before .before .before .before .before .before .before .before .before .before .before .before .before .before .before .before .before .before .read .ensures .0)
 
--- antt refused `texts-read-spec` as it was built: the module's report says why
 pub texts-read-spec : {M : Type 1} → statement M
 texts-read-spec =
     tie.close
