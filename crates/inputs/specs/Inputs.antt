@@ -24,6 +24,8 @@ pub record Loaded (text query N′ D′ : List ℕ) (R′ : List Word) (Q′ : L
   pub goal : Query
   pub reads-program : read-program text ≡ ok program
   pub reads-query : read-query program query ≡ ok goal
+  -- the counts are within the tables
+  pub room : (d ≤ length D′) × (a ≤ length R′) × (v ≤ length Q′) × (b ≤ length G′) × (m ≤ length N′)
   -- numbers of names below m and names are one-to-one
   pub apart : (i j : ℕ) → i < m → j < m → named N′ i ≡ named N′ j → i ≡ j
   pub heads : heads (named N′) (take d D′) ≡ map (λ d. (d .name, d .arity)) program

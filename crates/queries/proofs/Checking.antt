@@ -167,7 +167,7 @@ module _ {L B S Q D : List ℕ} {O : List Word} {B₁ B′ S′ Q′ : List ℕ}
         out = c .long ∙ r .longO;
         answer = (
           refl,
-          r .most,
+          omega (arith, r .most, r .longQ, can .order),
           omega (arith, c .fewer, r .out, c .long),
           λ w num t v s p.
               let l = left w num t v s p in

@@ -47,7 +47,7 @@ module _ (L B S Q D : List ℕ) (O : List Word) (names : ℕ) where
     pub words : take k O′ ≡ stmt-words num (statement-of t (query-variables t) []) []
 
   abbrev pub Checked : List ℕ → List Word → Queried → Type 0
-  Checked Q′ O′ (Read v k m) = (m ≡ names) × (v ≤ 16) × (k ≤ length O′) × Whole (λ w num t. Fine Q′ O′ v k w num t)
+  Checked Q′ O′ (Read v k m) = (m ≡ names) × (v ≤ length Q′) × (k ≤ length O′) × Whole (λ w num t. Fine Q′ O′ v k w num t)
   Checked Q′ O′ (Refused r) = Whole (λ w num t. least (due w t) ≡ some (numberOf r))
   Checked Q′ O′ Short = (length O < 4 * length L + 8) ⊎ (length S < length L)
 

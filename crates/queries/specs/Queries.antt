@@ -35,7 +35,7 @@ pub record Says (N′ : List ℕ) (O′ : List Word) (Q′ : List ℕ) (v k m : 
 pub record Taken (text N : List ℕ) (n : ℕ) (D N′ H′ S′ : List ℕ) (O′ : List Word) (Q′ : List ℕ) (v k m : ℕ) : Type 0 where
   pub lexicon : Lexicon N′ H′ S′ m
   pub grown : Grown N n N′ m
-  pub few : v ≤ 16
+  pub few : v ≤ length Q′
   pub inside : k ≤ length O′
   pub says : (P : Program) → Heads N D P → (q : Query) × (read-query P text ≡ ok q) × Says N′ O′ Q′ v k m q
 
