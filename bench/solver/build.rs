@@ -1,8 +1,8 @@
-//! Links the solver that `rt staticlib solverbench` wrote.
+//! Links the solver that `rt staticlib solve_bench` wrote.
 
 fn main() {
     let top = std::env::var("CARGO_MANIFEST_DIR").expect("set by cargo");
     println!("cargo:rustc-link-search=native={top}/../../target/staticlib");
-    println!("cargo:rustc-link-lib=static=solverbench");
+    println!("cargo:rustc-link-lib=static=solve_bench");
     println!("cargo:rerun-if-changed={top}/../../target/staticlib/libsolverbench.a");
 }

@@ -33,7 +33,7 @@ pub fn laid(program: &[u8], query: &[u8]) -> Result<Laid, Refusal> {
     Ok(lay(&read_query(&program, query)?))
 }
 
-/// The bytes that `casetexts` prints.
+/// The bytes that `read_cases` prints.
 pub fn printed(program: &[u8], query: &[u8]) -> Vec<u8> {
     match laid(program, query) {
         Err(refusal) => format!("refusal {}\n", refusal.number()).into_bytes(),

@@ -1,8 +1,8 @@
-//! Links the reader that `rt staticlib readbench` wrote.
+//! Links the reader that `rt staticlib read_bench` wrote.
 
 fn main() {
     let top = std::env::var("CARGO_MANIFEST_DIR").expect("set by cargo");
     println!("cargo:rustc-link-search=native={top}/../../target/staticlib");
-    println!("cargo:rustc-link-lib=static=readbench");
+    println!("cargo:rustc-link-lib=static=read_bench");
     println!("cargo:rerun-if-changed={top}/../../target/staticlib/libreadbench.a");
 }

@@ -12,7 +12,7 @@ use std::time::Instant;
 const ROUNDS: usize = 200;
 
 extern "C" {
-    /// crates/solverbench: a slice is passed as its address and its length.
+    /// crates/solve_bench: a slice is passed as its address and its length.
     fn solver_judge(
         words: *const u8,
         words_len: usize,

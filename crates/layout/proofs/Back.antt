@@ -8,8 +8,8 @@ use lib.ListN.{length}
 use Rattle.constraint.specs.Constraint.{Con, ctrue, cfail, ceq, capp}
 use Rattle.akl.specs.Base.{Name, _>>=_}
 use Rattle.akl.specs.Syntax.{Var, number, level, Op, wait, cond, commit, Stmt, atom, call, comp, hide, choice, Clauses, no-more, clause, Def, Program}
-use Rattle.words.specs.declared.Word.{Word}
-use Rattle.words.specs.declared.Word.the-variants.{End, Num, Inner}
+use Rattle.mem_words.specs.declared.Word.{Word}
+use Rattle.mem_words.specs.declared.Word.the-variants.{End, Num, Inner}
 use Rattle.layout.specs.Layout.{var-word, vars-words, ask, con-words, stmt-words, clauses-words, program-words}
 use Rattle.layout.specs.Reading.{an-end, a-number, a-var, an-opening, vars-from, inside, a-clause, some-clauses, stmt-from, clauses-from, program-from, read-stmt, read-program}
 use Rattle.layout.specs.Tables.{SpeltCon, Spelt, SpeltClauses, SpeltProgram, calls, clauses-calls, program-calls}

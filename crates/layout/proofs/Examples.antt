@@ -6,9 +6,9 @@ use Prim.Native.Nat.{ℕ}
 use Rattle.constraint.specs.Constraint.{ctrue, cfail, ceq, capp}
 use Rattle.akl.specs.Base.{Name, bytes-from, bytes}
 use Rattle.akl.specs.Syntax.{number, level, wait, cond, commit, Stmt, atom, call, comp, hide, choice, no-more, clause, Def, Program}
-use Rattle.words.specs.declared.Word.{Word}
-use Rattle.words.specs.declared.Word.the-variants.{End, Free, Level, Num, Inner, Bad}
-use Rattle.sorts.specs.declared.Sort.the-variants.{Locals, True, Fail, Eq, App, Call, Comp, Hide, Clause, AskWait, AskCond, AskCommit}
+use Rattle.mem_words.specs.declared.Word.{Word}
+use Rattle.mem_words.specs.declared.Word.the-variants.{End, Free, Level, Num, Inner, Bad}
+use Rattle.mem_sorts.specs.declared.Sort.the-variants.{Locals, True, Fail, Eq, App, Call, Comp, Hide, Clause, AskWait, AskCond, AskCommit}
 use Rattle.layout.specs.Layout.{var-word, vars-words, ask, con-words, stmt-words, program-words}
 use Rattle.layout.specs.Reading.{an-end, a-number, a-var, an-opening, vars-from, inside, a-clause, some-clauses, stmt-from, program-from, read-stmt, read-program}
 

@@ -5,8 +5,8 @@ use Prim.Native.Nat.{ℕ}
 use Rattle.constraint.specs.Constraint.{Con, ctrue, cfail, ceq, capp}
 use Rattle.akl.specs.Base.{Name}
 use Rattle.akl.specs.Syntax.{Var, number, level, wait, cond, commit, Stmt, atom, call, comp, hide, choice, Clauses, no-more, clause, Def, Program}
-use Rattle.words.specs.declared.Word.{Word}
-use Rattle.words.specs.declared.Word.the-variants.{End, Num}
+use Rattle.mem_words.specs.declared.Word.{Word}
+use Rattle.mem_words.specs.declared.Word.the-variants.{End, Num}
 use Rattle.layout.specs.Layout.{var-word, vars-words, ask, con-words, stmt-words, clauses-words, program-words}
 use Rattle.layout.specs.Tables.{SpeltCon, Spelt, SpeltClauses, SpeltProgram, NamesAt, Heads, Numbered}
 

@@ -6,7 +6,7 @@ use Prim.Native.Nat.{ℕ, _+_, _≤_}
 use native.Mathlib.Omega.{arith}
 use Rattle.akl.specs.Base.{Name}
 use Rattle.akl.specs.Syntax.{Stmt, Program}
-use Rattle.words.specs.declared.Word.{Word}
+use Rattle.mem_words.specs.declared.Word.{Word}
 use Rattle.layout.specs.Layout.{stmt-words, program-words}
 use Rattle.layout.specs.Reading.{stmt-from, program-from}
 use Rattle.layout.specs.Tables.{Spelt, SpeltProgram, calls, program-calls}

@@ -7,10 +7,10 @@ use lib.ListN.{length}
 use Rattle.constraint.specs.Constraint.{ctrue, cfail, ceq}
 use Rattle.akl.specs.Base.{Name, _>>=_}
 use Rattle.akl.specs.Syntax.{Op, wait, cond, commit, Stmt, atom, comp, hide, choice, Clauses, Program}
-use Rattle.words.specs.declared.Word.{Word}
-use Rattle.words.specs.declared.Word.the-variants.{End, Free, Level, Num, Place, Inner, Bad}
-use Rattle.sorts.specs.declared.Sort.{Sort}
-use Rattle.sorts.specs.declared.Sort.the-variants.{Locals, Store, True, Fail, Eq, App, Call, Comp, Hide, Clause, AskWait, AskCond, AskCommit, NoSort}
+use Rattle.mem_words.specs.declared.Word.{Word}
+use Rattle.mem_words.specs.declared.Word.the-variants.{End, Free, Level, Num, Place, Inner, Bad}
+use Rattle.mem_sorts.specs.declared.Sort.{Sort}
+use Rattle.mem_sorts.specs.declared.Sort.the-variants.{Locals, Store, True, Fail, Eq, App, Call, Comp, Hide, Clause, AskWait, AskCond, AskCommit, NoSort}
 use Rattle.layout.specs.Layout.{var-word, ask, con-words, stmt-words, clauses-words, program-words}
 use Rattle.layout.specs.Reading.{Read, an-end, a-number, a-var, an-opening, vars-from, inside, a-clause, some-clauses, stmt-from, clauses-from, program-from, read-stmt, read-program}
 use Rattle.layout.specs.Tables.{Spelt, SpeltClauses, SpeltProgram, Names, SecondNames, Heads, Numbered}

@@ -5,9 +5,9 @@ use mathlib.Core.Option.{Option, some, none}
 use Prim.Native.Nat.{ℕ}
 use Rattle.akl.specs.Base.{Name, _>>=_}
 use Rattle.akl.specs.Syntax.{Var}
-use Rattle.words.specs.declared.Word.{Word}
-use Rattle.words.specs.declared.Word.the-variants.{End, Free, Level, Num, Place, Inner, Bad}
-use Rattle.sorts.specs.declared.Sort.{Sort}
+use Rattle.mem_words.specs.declared.Word.{Word}
+use Rattle.mem_words.specs.declared.Word.the-variants.{End, Free, Level, Num, Place, Inner, Bad}
+use Rattle.mem_sorts.specs.declared.Sort.{Sort}
 use Rattle.layout.specs.Layout.{var-word, vars-words}
 use Rattle.layout.specs.Reading.{an-end, a-number, a-var, an-opening, vars-from}
 use Rattle.layout.specs.Tables.{Numbered}

@@ -20,10 +20,10 @@ use Prim.Native.Nat.{ℕ}
 use Rattle.constraint.specs.Constraint.{Con, ctrue, cfail, ceq, capp}
 use Rattle.akl.specs.Base.{Name}
 use Rattle.akl.specs.Syntax.{Var, number, level, Op, wait, cond, commit, Stmt, atom, call, comp, hide, choice, Clauses, no-more, clause, Def, Program}
-use Rattle.words.specs.declared.Word.{Word}
-use Rattle.words.specs.declared.Word.the-variants.{End, Free, Level, Num, Inner}
-use Rattle.sorts.specs.declared.Sort.{Sort}
-use Rattle.sorts.specs.declared.Sort.the-variants.{True, Fail, Eq, App, Call, Comp, Hide, Clause, AskWait, AskCond, AskCommit}
+use Rattle.mem_words.specs.declared.Word.{Word}
+use Rattle.mem_words.specs.declared.Word.the-variants.{End, Free, Level, Num, Inner}
+use Rattle.mem_sorts.specs.declared.Sort.{Sort}
+use Rattle.mem_sorts.specs.declared.Sort.the-variants.{True, Fail, Eq, App, Call, Comp, Hide, Clause, AskWait, AskCond, AskCommit}
 
 unfoldable pub var-word : Var → Word
 var-word (number x) = Free x

@@ -7,10 +7,10 @@ use lib.ListN.{length}
 use Rattle.constraint.specs.Constraint.{ctrue, cfail, ceq, capp}
 use Rattle.akl.specs.Base.{Name, _>>=_}
 use Rattle.akl.specs.Syntax.{Var, number, level, wait, cond, commit, Stmt, atom, call, comp, hide, choice, Clauses, no-more, clause, Def, Program}
-use Rattle.words.specs.declared.Word.{Word}
-use Rattle.words.specs.declared.Word.the-variants.{End, Free, Level, Num, Place, Inner, Bad}
-use Rattle.sorts.specs.declared.Sort.{Sort}
-use Rattle.sorts.specs.declared.Sort.the-variants.{Locals, Store, True, Fail, Eq, App, Call, Comp, Hide, Clause, AskWait, AskCond, AskCommit, NoSort}
+use Rattle.mem_words.specs.declared.Word.{Word}
+use Rattle.mem_words.specs.declared.Word.the-variants.{End, Free, Level, Num, Place, Inner, Bad}
+use Rattle.mem_sorts.specs.declared.Sort.{Sort}
+use Rattle.mem_sorts.specs.declared.Sort.the-variants.{Locals, Store, True, Fail, Eq, App, Call, Comp, Hide, Clause, AskWait, AskCond, AskCommit, NoSort}
 
 -- Something read, and the words behind it.
 abbrev pub Read : Type 0 → Type 0

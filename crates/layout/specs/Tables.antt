@@ -6,10 +6,10 @@ use Prim.Native.Nat.{ℕ, suc, _+_}
 use Rattle.constraint.specs.Constraint.{Con, ctrue, cfail, ceq, capp}
 use Rattle.akl.specs.Base.{Name}
 use Rattle.akl.specs.Syntax.{Var, Stmt, atom, call, comp, hide, choice, Clauses, no-more, clause, Def, Program}
-use Rattle.words.specs.declared.Word.{Word}
-use Rattle.words.specs.declared.Word.the-variants.{End, Free, Level, Num, Place, Inner, Bad}
-use Rattle.sorts.specs.declared.Sort.{Sort}
-use Rattle.sorts.specs.declared.Sort.the-variants.{Locals, Store, True, Fail, Eq, App, Call, Comp, Hide, Clause, AskWait, AskCond, AskCommit, NoSort}
+use Rattle.mem_words.specs.declared.Word.{Word}
+use Rattle.mem_words.specs.declared.Word.the-variants.{End, Free, Level, Num, Place, Inner, Bad}
+use Rattle.mem_sorts.specs.declared.Sort.{Sort}
+use Rattle.mem_sorts.specs.declared.Sort.the-variants.{Locals, Store, True, Fail, Eq, App, Call, Comp, Hide, Clause, AskWait, AskCond, AskCommit, NoSort}
 
 -- Each name in it is the name of its number.
 abbrev pub SpeltCon : (Name → ℕ) → (ℕ → Name) → Con Var → Type 0

@@ -1,9 +1,9 @@
-//! The verified reader (crates/readbench) with tables of its own.
+//! The verified reader (crates/read_bench) with tables of its own.
 
 use second::layout::Laid;
 
 extern "C" {
-    /// crates/readbench: a slice is passed as its address and its length.
+    /// crates/read_bench: a slice is passed as its address and its length.
     fn texts_read(
         program: *const u8,
         program_len: usize,

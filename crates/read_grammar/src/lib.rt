@@ -1,0 +1,99 @@
+// Whether a table of tokens is of the grammar: a statement and a full stop, or definitions. The stack is for the brackets that
+// are open in a statement.
+ghost use Rattle.mem_numbers.specs.Numbers.{triples};
+ghost use Rattle.read_phrases.specs.Codes.{Known};
+ghost use Rattle.read_grammar.specs.Grammar.{DefinitionTo, QueryIs, ProgramIs};
+use read_phrases::Phrase;
+use read_statements::End;
+
+// Whether a text is of the grammar; or the stack is too short.
+pub enum Verdict {
+    Of,
+    NotOf,
+    NoRoom,
+}
+
+// Whether the whole table is a query: a statement and a full stop.
+pub fn query_is(codes: &[u8], stack: &mut [u8]) -> Verdict
+    requires { ⌜ Known (triples (now codes)) ⌝ }
+    ensures { λ r. ⌜ QueryIs (triples (now (codes .entry))) (now (stack .entry)) r ⌝ }
+{
+    let e = read_statements::statement_end(codes, stack, 0);
+    match e {
+        End::To(rest) => {
+            if read_phrases::kind_at(codes, rest) != 6 {
+                return Verdict::NotOf;
+            }
+            if rest + 1 < mem_numbers::triple_count(codes) {
+                return Verdict::NotOf;
+            }
+            Verdict::Of
+        }
+        End::None => Verdict::NotOf,
+        End::Short => Verdict::NoRoom,
+    }
+}
+
+// Where the definition that begins at `at` ends. The names `true` and `fail` have the numbers 4 and 8.
+pub fn definition_end(codes: &[u8], stack: &mut [u8], at: usize) -> End
+    requires { ⌜ Known (triples (now codes)) ⌝ }
+    ensures { λ r. ⌜ DefinitionTo (triples (now (codes .entry))) (now (stack .entry)) at r ⌝ }
+{
+    if read_phrases::kind_at(codes, at) != 0 {
+        return End::None;
+    }
+    let name = read_phrases::number_at(codes, at);
+    if name == 4 {
+        return End::None;
+    }
+    if name == 8 {
+        return End::None;
+    }
+    let p = read_phrases::arguments_end(codes, at + 1);
+    match p {
+        Phrase::To {
+            rest,
+            count: _count,
+        } => {
+            if read_phrases::kind_at(codes, rest) != 8 {
+                return End::None;
+            }
+            let e = read_statements::statement_end(codes, stack, rest + 1);
+            match e {
+                End::To(end) => {
+                    if read_phrases::kind_at(codes, end) != 6 {
+                        return End::None;
+                    }
+                    End::To(end + 1)
+                }
+                End::None => End::None,
+                End::Short => End::Short,
+            }
+        }
+        Phrase::Odd => End::None,
+    }
+}
+
+// Whether the whole table is a program: zero or more definitions.
+pub fn program_is(codes: &[u8], stack: &mut [u8]) -> Verdict
+    requires { ⌜ Known (triples (now codes)) ⌝ }
+    ensures { λ r. ⌜ ProgramIs (triples (now (codes .entry))) (now (stack .entry)) r ⌝ }
+{
+    let n = mem_numbers::triple_count(codes);
+    let mut i = 0;
+    while i < n {
+        let e = definition_end(codes, stack, i);
+        match e {
+            End::To(rest) => {
+                i = rest;
+            }
+            End::None => {
+                return Verdict::NotOf;
+            }
+            End::Short => {
+                return Verdict::NoRoom;
+            }
+        }
+    }
+    Verdict::Of
+}

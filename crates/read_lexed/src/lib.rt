@@ -1,0 +1,110 @@
+// A whole text to a table of token codes. A code is the number of the token's kind + 256 * the number of its name, which
+// is 0 for a mark.
+ghost use mathlib.Core.Path.{_≡_};
+ghost use Rattle.mem_numbers.specs.Numbers.{shorts, triples};
+ghost use Rattle.read_nodes.specs.Trie.{Trie};
+ghost use Rattle.read_lexed.specs.Codes.{kindNo};
+ghost use Rattle.read_lexed.specs.Encoded.{CanCode, Encoded};
+ghost use Rattle.read_lexed.specs.Table.{Tokenised};
+use read_tokens::Cursor;
+use read_tokens::Kind;
+use read_tokens::Next;
+use read_trie::Child;
+
+// How many codes and nodes there are; or some bytes are no token; or a table is too short.
+pub enum Lexed {
+    All(usize, usize),
+    Bad,
+    Full,
+}
+
+// The number of a kind.
+pub fn kind_no(kind: Kind) -> usize
+    ensures { λ r. ⌜ r ≡ kindNo kind ⌝ }
+{
+    match kind {
+        Kind::Name => 0,
+        Kind::Digits => 1,
+        Kind::Variable => 2,
+        Kind::OpenBracket => 3,
+        Kind::CloseBracket => 4,
+        Kind::Comma => 5,
+        Kind::FullStop => 6,
+        Kind::Colon => 7,
+        Kind::Defines => 8,
+        Kind::Equals => 9,
+        Kind::Semicolon => 10,
+        Kind::Wait => 11,
+        Kind::Cond => 12,
+        Kind::Commit => 13,
+    }
+}
+
+// The code of the token of `len` bytes from `at` on, and the count of nodes.
+fn code(
+    text: &[u8],
+    kind: Kind,
+    at: usize,
+    len: usize,
+    cells: &mut [u8],
+    heads: &mut [u8],
+    nexts: &mut [u8],
+    n: usize,
+) -> Child
+    requires { ⌜ CanCode (now text) at len (triples (now cells)) (shorts (now heads)) (shorts (now nexts)) n ⌝ }
+    ensures { λ r. ⌜ Encoded (now (text .entry)) kind at len (triples (now (cells .entry))) (shorts (now (heads .entry))) (shorts (now (nexts .entry))) n (triples (now (cells .exit))) (shorts (now (heads .exit))) (shorts (now (nexts .exit))) r ⌝ }
+{
+    let no = kind_no(kind);
+    if 3 <= no {
+        return Child::At(no, n);
+    }
+    let Child::At(i, m) = read_names::intern(text, at, len, cells, heads, nexts, n) else {
+        return Child::Full;
+    };
+    Child::At(no + i * 256, m)
+}
+
+// Codes all tokens of a text.
+pub fn tokenise(
+    text: &[u8],
+    codes: &mut [u8],
+    cells: &mut [u8],
+    heads: &mut [u8],
+    nexts: &mut [u8],
+    n: usize,
+) -> Lexed
+    requires { ⌜ Trie (triples (now cells)) (shorts (now heads)) (shorts (now nexts)) n ⌝ }
+    ensures { λ r. ⌜ Tokenised (now (text .entry)) (triples (now (codes .entry))) (triples (now (cells .entry))) (shorts (now (heads .entry))) (shorts (now (nexts .entry))) n (triples (now (codes .exit))) (triples (now (cells .exit))) (shorts (now (heads .exit))) (shorts (now (nexts .exit))) r ⌝ }
+{
+    let mut at: usize = 0;
+    let mut k: usize = 0;
+    let mut m = n;
+    loop {
+        let next = Cursor(at).next(text);
+        match next {
+            Next::End => {
+                return Lexed::All(k, m);
+            }
+            Next::Bad => {
+                return Lexed::Bad;
+            }
+            Next::Token {
+                kind,
+                at: from,
+                len,
+                rest,
+            } => {
+                if mem_numbers::triple_count(codes) <= k {
+                    return Lexed::Full;
+                }
+                let Child::At(c, l) = code(text, kind, from, len, cells, heads, nexts, m) else {
+                    return Lexed::Full;
+                };
+                mem_numbers::triple_put(codes, k, c);
+                k += 1;
+                m = l;
+                at = rest.0;
+            }
+        }
+    }
+}
