@@ -9,7 +9,7 @@ use native.Mathlib.Omega.{arith}
 use lib.Dec.{T, eqb}
 use Rattle.constraint.specs.Constraint.{Con, Store, Satisfiable, Quiet, In}
 use Rattle.constraint.specs.Solve.{satisfiable?, quiet?}
-use Rattle.constraint.proofs.Lists.{and-T, or-T, not-T}
+use Rattle.constraint.proofs.Lists.{none-some, and-T, or-T, not-T}
 use Rattle.constraint.proofs.Decision.{satisfiable-iff}
 use Rattle.constraint.proofs.Renamed.{quiet-iff}
 use Rattle.akl.specs.Base.{Name, size}
@@ -23,12 +23,9 @@ use Rattle.theory.specs.Transition.{Some, Transition}
 use Rattle.theory.specs.Transition as Tr
 use Rattle.accept.proofs.Effects.{rules-of, rule-of, leads}
 
-none-some : (d : Config) → _≡_ {A = Change} none (some d) → ⊥
-none-some d q = let z : _≡_ {A = ℕ} 0 1 = cc in omega arith
-
 provided-inv : (b : Bool) (c : Change) (d : Config) → provided b c ≡ some d → T b × (c ≡ some d)
 provided-inv true c d e = (tt, e)
-provided-inv false c d e = absurd (none-some d e)
+provided-inv false c d e = absurd (none-some e)
 
 -- what a place's node and context make together
 abbrev pub whole : Place → Node goal
@@ -54,16 +51,16 @@ module _ (P : Program) (N : ℕ) where
   module _ (χ : Ctx goal) (vs : List ℕ) (σ : Store) (l r : Nodes member) where
     call-found : (p : Name) (xs : List Var) (d : Config) (o : Option Stmt) → defined P p (size xs) ≡ o → effect P N 2 (at (in-and χ vs σ l r) (stmt (call p xs))) ≡ some d → Found 2 (at (in-and χ vs σ l r) (stmt (call p xs))) d
     unfolding effect
-    call-found p xs d none q e = absurd (none-some d (rw q at e))
+    call-found p xs d none q e = absurd (none-some (rw q at e))
     call-found p xs d (some b) q e = found (Tr.program-atom (in-and χ vs σ l r) p xs b q) d (rw q at e)
 
     -- 6
     six : (op : Op) (gs : Nodes guarded) (d : Config) → effect P N 6 (at (in-and χ vs σ l r) (choice-box op gs)) ≡ some d → Found 6 (at (in-and χ vs σ l r) (choice-box op gs)) d
     unfolding effect
-    six op nil d e = absurd (none-some d e)
-    six op (cons g (cons h gs)) d e = absurd (none-some d e)
-    six op (cons (guard (or ns) b) nil) d e = absurd (none-some d e)
-    six op (cons (guard (and us τ (cons m ms)) b) nil) d e = absurd (none-some d e)
+    six op nil d e = absurd (none-some e)
+    six op (cons g (cons h gs)) d e = absurd (none-some e)
+    six op (cons (guard (or ns) b) nil) d e = absurd (none-some e)
+    six op (cons (guard (and us τ (cons m ms)) b) nil) d e = absurd (none-some e)
     six op (cons (guard (and us τ nil) b) nil) d e =
         let h = provided-inv (is-wait op || quiet? us (env χ ++ σ) τ) _ d e in
         found (Tr.promotion χ vs σ l r op us τ b (elim (or-T (is-wait op) (quiet? us (env χ ++ σ) τ) .0 (h .0)) [ inl t ↦ inl (op-wait op t) | inr t ↦ inr (quiet-iff us (env χ ++ σ) τ .0 t) ])) d (h .1)
@@ -75,27 +72,27 @@ module _ (P : Program) (N : ℕ) where
     ten : (op : Op) (gs : Nodes guarded) (d : Config) → effect P N 10 (at (in-and χ vs σ l r) (choice-box op gs)) ≡ some d → Found 10 (at (in-and χ vs σ l r) (choice-box op gs)) d
     unfolding effect
     ten op nil d e = found (Tr.goal-failure χ vs σ l r op) d e
-    ten op (cons g gs) d e = absurd (none-some d e)
+    ten op (cons g gs) d e = absurd (none-some e)
 
     -- 12
     twelve : (op : Op) (gs : Nodes guarded) (d : Config) → effect P N 12 (at (in-and χ vs σ l r) (choice-box op gs)) ≡ some d → Found 12 (at (in-and χ vs σ l r) (choice-box op gs)) d
     unfolding effect
-    twelve op nil d e = absurd (none-some d e)
-    twelve op (cons g nil) d e = absurd (none-some d e)
-    twelve op (cons (guard (or ns) b) (cons t ts)) d e = absurd (none-some d e)
-    twelve op (cons (guard (and us τ (cons m ms)) b) (cons t ts)) d e = absurd (none-some d e)
+    twelve op nil d e = absurd (none-some e)
+    twelve op (cons g nil) d e = absurd (none-some e)
+    twelve op (cons (guard (or ns) b) (cons t ts)) d e = absurd (none-some e)
+    twelve op (cons (guard (and us τ (cons m ms)) b) (cons t ts)) d e = absurd (none-some e)
     twelve wait (cons (guard (and us τ nil) b) (cons t ts)) d e = found (Tr.splitting χ vs σ l r us τ b t ts) d e
-    twelve cond (cons (guard (and us τ nil) b) (cons t ts)) d e = absurd (none-some d e)
-    twelve commit (cons (guard (and us τ nil) b) (cons t ts)) d e = absurd (none-some d e)
+    twelve cond (cons (guard (and us τ nil) b) (cons t ts)) d e = absurd (none-some e)
+    twelve commit (cons (guard (and us τ nil) b) (cons t ts)) d e = absurd (none-some e)
 
   -- 7, 8, 11, 13: a guarded goal
   module _ (χ : Ctx member) where
     seven : (op : Op) (l r : Nodes guarded) (g : Node goal) (b : Stmt) (d : Config) → effect P N 7 (at (in-choice χ op l r) (guard g b)) ≡ some d → Found 7 (at (in-choice χ op l r) (guard g b)) d
     unfolding effect
-    seven wait l r g b d e = absurd (none-some d e)
-    seven commit l r g b d e = absurd (none-some d e)
-    seven cond l r (or ns) b d e = absurd (none-some d e)
-    seven cond l r (and us τ (cons m ms)) b d e = absurd (none-some d e)
+    seven wait l r g b d e = absurd (none-some e)
+    seven commit l r g b d e = absurd (none-some e)
+    seven cond l r (or ns) b d e = absurd (none-some e)
+    seven cond l r (and us τ (cons m ms)) b d e = absurd (none-some e)
     seven cond l r (and us τ nil) b d e =
         let h = provided-inv (quiet? us (env χ) τ && non-empty r) _ d e in
         let k = and-T (quiet? us (env χ) τ) (non-empty r) .0 (h .0) in
@@ -106,10 +103,10 @@ module _ (P : Program) (N : ℕ) where
 
     eight : (op : Op) (l r : Nodes guarded) (g : Node goal) (b : Stmt) (d : Config) → effect P N 8 (at (in-choice χ op l r) (guard g b)) ≡ some d → Found 8 (at (in-choice χ op l r) (guard g b)) d
     unfolding effect
-    eight wait l r g b d e = absurd (none-some d e)
-    eight cond l r g b d e = absurd (none-some d e)
-    eight commit l r (or ns) b d e = absurd (none-some d e)
-    eight commit l r (and us τ (cons m ms)) b d e = absurd (none-some d e)
+    eight wait l r g b d e = absurd (none-some e)
+    eight cond l r g b d e = absurd (none-some e)
+    eight commit l r (or ns) b d e = absurd (none-some e)
+    eight commit l r (and us τ (cons m ms)) b d e = absurd (none-some e)
     eight commit l r (and us τ nil) b d e =
         let h = provided-inv (quiet? us (env χ) τ && (non-empty l || non-empty r)) _ d e in
         let k = and-T (quiet? us (env χ) τ) (non-empty l || non-empty r) .0 (h .0) in
@@ -121,14 +118,14 @@ module _ (P : Program) (N : ℕ) where
     eleven : (op : Op) (l r : Nodes guarded) (g : Node goal) (b : Stmt) (d : Config) → effect P N 11 (at (in-choice χ op l r) (guard g b)) ≡ some d → Found 11 (at (in-choice χ op l r) (guard g b)) d
     unfolding effect
     eleven op l r (or nil) b d e = found (Tr.guard-failure χ op l r b) d e
-    eleven op l r (or (cons n ns)) b d e = absurd (none-some d e)
-    eleven op l r (and us τ ms) b d e = absurd (none-some d e)
+    eleven op l r (or (cons n ns)) b d e = absurd (none-some e)
+    eleven op l r (and us τ ms) b d e = absurd (none-some e)
 
     thirteen : (op : Op) (l r : Nodes guarded) (g : Node goal) (b : Stmt) (d : Config) → effect P N 13 (at (in-choice χ op l r) (guard g b)) ≡ some d → Found 13 (at (in-choice χ op l r) (guard g b)) d
     unfolding effect
-    thirteen op l r (or nil) b d e = absurd (none-some d e)
+    thirteen op l r (or nil) b d e = absurd (none-some e)
     thirteen op l r (or (cons g gs)) b d e = found (Tr.distribution χ op l r g gs b) d e
-    thirteen op l r (and us τ ms) b d e = absurd (none-some d e)
+    thirteen op l r (and us τ ms) b d e = absurd (none-some e)
 
   -- a rule by its number
   is-rule : (j : ℕ) (pl : Place) (d : Config) → (effect P N j pl ≡ some d → Found j pl d) → (r : ℕ) → r ≡ j → effect P N r pl ≡ some d → Found r pl d

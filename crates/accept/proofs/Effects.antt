@@ -10,7 +10,7 @@ use native.Mathlib.Nat.{not-suc-le-zero}
 use lib.Dec.{T, eqb}
 use Rattle.constraint.specs.Constraint.{Con, Store, Satisfiable, Quiet, In}
 use Rattle.constraint.specs.Solve.{satisfiable?, quiet?, elem}
-use Rattle.constraint.proofs.Lists.{and-T, or-T, not-T, elem-In}
+use Rattle.constraint.proofs.Lists.{none-some, and-T, or-T, not-T, elem-In}
 use Rattle.constraint.proofs.Decision.{satisfiable-iff}
 use Rattle.constraint.proofs.Renamed.{quiet-iff}
 use Rattle.akl.specs.Base.{Name, size, nth, all, range, if}
@@ -61,18 +61,12 @@ row-listed other-or-box = tt
 nth-below : {A : Type 0} (l : List A) (n : ℕ) (x : A) → nth l n ≡ some x → n < size l
 unfolding nth size
 nth-below [] n x e = absurd (none-some e)
-  where
-    none-some : _≡_ {A = Option _} none (some x) → ⊥
-    none-some q = let z : _≡_ {A = ℕ} 0 1 = cc in omega arith
 nth-below (y ∷ l) zero x e = omega arith
 nth-below (y ∷ l) (suc n) x e = omega (arith, nth-below l n x e)
 
 pub row-range : (r : ℕ) (w : Row) → rule-row r ≡ some w → In r (range 1 (size table))
 unfolding rule-row
 row-range zero w e = absurd (none-some e)
-  where
-    none-some : _≡_ {A = Option Row} none (some w) → ⊥
-    none-some q = let z : _≡_ {A = ℕ} 0 1 = cc in omega arith
 row-range (suc r) w e = In-range (suc r) 1 (size table) (omega arith) (omega (arith, nth-below table r w e))
 
 pub rule-of : (t : Takes) (r : ℕ) (w : Row) → rule-row r ≡ some w → T (same-kind t (w .takes)) → In r (rules-of t)

@@ -10,7 +10,7 @@ use Rattle.akl.specs.Syntax.{Op, wait, cond, commit, Stmt, atom, comp, hide, ch
 use Rattle.mem_words.specs.declared.Word.{Word}
 use Rattle.mem_words.specs.declared.Word.the-variants.{End, Free, Level, Num, Place, Inner, Bad}
 use Rattle.mem_sorts.specs.declared.Sort.{Sort}
-use Rattle.mem_sorts.specs.declared.Sort.the-variants.{Locals, Store, True, Fail, Eq, App, Call, Comp, Hide, Clause, AskWait, AskCond, AskCommit, NoSort}
+use Rattle.mem_sorts.specs.declared.Sort.the-variants.{Locals, Store, True, Fail, Eq, App, Call, Comp, Hide, Clause, AskWait, AskCond, AskCommit}
 use Rattle.layout.specs.Layout.{var-word, ask, con-words, stmt-words, clauses-words, program-words}
 use Rattle.layout.specs.Reading.{Read, an-end, a-number, a-var, an-opening, vars-from, inside, a-clause, some-clauses, stmt-from, clauses-from, program-from, read-stmt, read-program}
 use Rattle.layout.specs.Tables.{Spelt, SpeltClauses, SpeltProgram, Names, SecondNames, Heads, Numbered}
@@ -82,7 +82,6 @@ inside-good num spell st cl a c Clause r h = tt
 inside-good num spell st cl a c AskWait r h = choice-good num spell cl c wait r (h .1)
 inside-good num spell st cl a c AskCond r h = choice-good num spell cl c cond r (h .1)
 inside-good num spell st cl a c AskCommit r h = choice-good num spell cl c commit r (h .1)
-inside-good num spell st cl a c NoSort r h = tt
 
 clause-good : (num : Name → ℕ) (spell : ℕ → Name) (st : List Word → Read Stmt) (cl : List Word → Read Clauses) → Stmts num spell st → Parted num spell cl → (k : Sort) (r : List Word) → Numbered num spell (Inner k ∷ r) → Good (IsClauses num spell (Inner k ∷ r)) (a-clause st cl k r)
 unfolding a-clause stmt-words
@@ -108,7 +107,6 @@ clause-good num spell st cl a c Clause r h =
 clause-good num spell st cl a c AskWait r h = tt
 clause-good num spell st cl a c AskCond r h = tt
 clause-good num spell st cl a c AskCommit r h = tt
-clause-good num spell st cl a c NoSort r h = tt
 
 clauses-good : (num : Name → ℕ) (spell : ℕ → Name) (st : List Word → Read Stmt) (cl : List Word → Read Clauses) → Stmts num spell st → Parted num spell cl → Parted num spell (some-clauses st cl)
 unfolding some-clauses stmt-words

@@ -10,7 +10,7 @@ use Rattle.akl.specs.Syntax.{Var, number, level, wait, cond, commit, Stmt, atom
 use Rattle.mem_words.specs.declared.Word.{Word}
 use Rattle.mem_words.specs.declared.Word.the-variants.{End, Free, Level, Num, Place, Inner, Bad}
 use Rattle.mem_sorts.specs.declared.Sort.{Sort}
-use Rattle.mem_sorts.specs.declared.Sort.the-variants.{Locals, Store, True, Fail, Eq, App, Call, Comp, Hide, Clause, AskWait, AskCond, AskCommit, NoSort}
+use Rattle.mem_sorts.specs.declared.Sort.the-variants.{Locals, Store, True, Fail, Eq, App, Call, Comp, Hide, Clause, AskWait, AskCond, AskCommit}
 
 -- Something read, and the words behind it.
 abbrev pub Read : Type 0 → Type 0
@@ -83,7 +83,6 @@ inside spell st cl Clause r = none
 inside spell st cl AskWait r = cl r >>= λ cs. some (choice wait (cs .0), cs .1)
 inside spell st cl AskCond r = cl r >>= λ cs. some (choice cond (cs .0), cs .1)
 inside spell st cl AskCommit r = cl r >>= λ cs. some (choice commit (cs .0), cs .1)
-inside spell st cl NoSort r = none
 
 -- a clause, its first word passed, and the clauses after it
 unfoldable pub a-clause : (List Word → Read Stmt) → (List Word → Read Clauses) → Sort → List Word → Read Clauses
@@ -100,7 +99,6 @@ a-clause st cl Clause r = a-number r >>= λ n. st (n .1) >>= λ g. st (g .1) >>=
 a-clause st cl AskWait r = none
 a-clause st cl AskCond r = none
 a-clause st cl AskCommit r = none
-a-clause st cl NoSort r = none
 
 -- clauses up to an End, and the words behind it
 unfoldable pub some-clauses : (List Word → Read Stmt) → (List Word → Read Clauses) → List Word → Read Clauses

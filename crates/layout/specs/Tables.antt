@@ -9,7 +9,7 @@ use Rattle.akl.specs.Syntax.{Var, Stmt, atom, call, comp, hide, choice, Clauses
 use Rattle.mem_words.specs.declared.Word.{Word}
 use Rattle.mem_words.specs.declared.Word.the-variants.{End, Free, Level, Num, Place, Inner, Bad}
 use Rattle.mem_sorts.specs.declared.Sort.{Sort}
-use Rattle.mem_sorts.specs.declared.Sort.the-variants.{Locals, Store, True, Fail, Eq, App, Call, Comp, Hide, Clause, AskWait, AskCond, AskCommit, NoSort}
+use Rattle.mem_sorts.specs.declared.Sort.the-variants.{Locals, Store, True, Fail, Eq, App, Call, Comp, Hide, Clause, AskWait, AskCond, AskCommit}
 
 -- Each name in it is the name of its number.
 abbrev pub SpeltCon : (Name → ℕ) → (ℕ → Name) → Con Var → Type 0
@@ -65,7 +65,6 @@ NamesIn num spell Clause r = Unit {0}
 NamesIn num spell AskWait r = Unit {0}
 NamesIn num spell AskCond r = Unit {0}
 NamesIn num spell AskCommit r = Unit {0}
-NamesIn num spell NoSort r = Unit {0}
 
 -- a number with a number behind it is that of a definition
 abbrev pub Heads : (Name → ℕ) → (ℕ → Name) → ℕ → List Word → Type 0

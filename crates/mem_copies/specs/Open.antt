@@ -6,12 +6,14 @@ use mathlib.Core.List.{List}
 use Prim.Native.Nat.{ℕ, _+_, _-_, _<_, _≤_}
 use native.Mathlib.Omega.{arith}
 use lib.Dec.{ltb}
-use lib.ListN.{length, getD}
+use lib.ListN.{length, getD, set, drop, length-set, length-drop}
+use lib.Seq.{getD-drop}
+use Rattle.mem_numbers.specs.Stored.{Stored}
 use borrow.Author.Tests.{lt-ltb, le-ltb}
 use Rattle.mem_words.specs.declared.Word.{Word}
 use Rattle.mem_words.specs.declared.Word.the-variants.{End, Free, Level, Num, Place, Inner, Bad}
 use Rattle.mem_words.specs.Words.{Small, Read, valueOf, classOf, word, word-of}
-use Rattle.mem_copies.specs.Runs.{run, getD-run, length-run}
+use Rattle.mem_copies.specs.Runs.{run, getD-run, length-run, copied, Copied, copied-none, copied-more}
 
 -- level l becomes the l-th of the words vs, or level l - length vs
 abbrev pub openLevel : List Word → ℕ → Word
@@ -79,3 +81,43 @@ open-keep vs w v e h s = record { is = kept vs v h ∙ ap (openWord vs) (sym e);
 -- words are the same when class and value are
 pub same-word : (a b : Word) → classOf a ≡ classOf b → valueOf a ≡ valueOf b → a ≡ b
 same-word a b p q = sym (word-of a) ∙ ap (λ (k : ℕ). word k (valueOf a)) p ∙ ap (word (classOf b)) q ∙ word-of b
+
+-- whether a word is a level
+abbrev pub isLevel : Word → Bool
+isLevel End = false
+isLevel (Free v) = false
+isLevel (Level v) = true
+isLevel (Num v) = false
+isLevel (Place k) = false
+isLevel (Inner s) = false
+isLevel Bad = false
+
+-- opening keeps every other word
+pub open-plain : (vs : List Word) (w : Word) → isLevel w ≡ false → w ≡ openWord vs w
+open-plain vs End h = kept vs End tt
+open-plain vs (Free v) h = kept vs (Free v) tt
+open-plain vs (Level v) h = absurd (true-false h)
+  where
+    true-false : true ≡ false → ⊥
+    true-false e = let z : _≡_ {A = ℕ} 0 1 = cc in omega arith
+open-plain vs (Num v) h = kept vs (Num v) tt
+open-plain vs (Place k) h = kept vs (Place k) tt
+open-plain vs (Inner s) h = kept vs (Inner s) tt
+open-plain vs Bad h = kept vs Bad tt
+
+-- what may be written opened: the element k of S to j in D, with the m elements of N from v on at hand
+pub record CanPutOpened (S : List Word) (k : ℕ) (N : List Word) (v m : ℕ) (D : List Word) (j : ℕ) : Type 0 where
+  pub source : k < length S
+  pub room : j < length D
+  pub words : v + m ≤ length N
+
+-- a copy of one word is a store
+pub one-stored : (D S X : List Word) (j k : ℕ) (v : Word) → v ≡ getD S k Bad → k < length S → j < length D → Copied D j (drop k S) 1 X → Stored D j v X
+one-stored D S X j k v e hs hd c =
+    let z : j + 0 ≡ j = omega arith in
+    let q : k + 0 ≡ k = omega arith in
+    let t : v ≡ getD (drop k S) 0 Bad = e ∙ ap (λ (x : ℕ). getD S x Bad) (sym q) ∙ sym (getD-drop k S 0 Bad) in
+    let p : Stored D (j + 0) v (set D j v) = record { list = ap (λ (x : ℕ). set D x v) (sym z); long = length-set D j v } in
+    let m : set D j v ≡ copied D j (drop k S) (0 + 1) = copied-more D j (drop k S) D (set D j v) 0 v Bad (copied-none D j (drop k S)) t (omega arith) (omega (arith, length-drop k S)) p in
+    let o : 0 + 1 ≡ 1 = omega arith in
+    record { list = c .list ∙ ap (copied D j (drop k S)) (sym o) ∙ sym m; long = c .long }

@@ -3,20 +3,31 @@ ghost use mathlib.Core.List.{map};
 ghost use lib.ListN.{drop};
 ghost use Rattle.mem_words.specs.Words.{words};
 ghost use Rattle.mem_copies.specs.Runs.{run, CanCopy, CanCopyOpened, Copied};
-ghost use Rattle.mem_copies.specs.Open.{openWord, Opened, CanOpen};
+ghost use mathlib.Core.Path.{_≡_};
+ghost use lib.ListN.{getD};
+ghost use Rattle.mem_numbers.specs.Stored.{Stored};
+ghost use Rattle.mem_words.specs.declared.Word.the-variants.{Bad};
+ghost use Rattle.mem_copies.specs.Open.{openWord, Opened, CanOpen, CanPutOpened, isLevel};
 use mem_words::Word;
+
+// Copies the `n` bytes of `src` from `from` on to `dst` from `at` on.
+fn copy_bytes(src: &[u8], from: usize, n: usize, dst: &mut [u8], at: usize)
+    requires { ⌜ CanCopy (now src) from n (now dst) at ⌝ }
+    ensures { λ _. ⌜ Copied (now (dst .entry)) at (drop from (now (src .entry))) n (now (dst .exit)) ⌝ }
+{
+    let mut i = 0;
+    while i < n {
+        dst[at + i] = src[from + i];
+        i += 1;
+    }
+}
 
 // Copies the `n` words of `src` from `from` on to `dst` from `at` on.
 pub fn copy(src: &[u8], from: usize, n: usize, dst: &mut [u8], at: usize)
     requires { ⌜ CanCopy (words (now src)) from n (words (now dst)) at ⌝ }
     ensures { λ _. ⌜ Copied (words (now (dst .entry))) at (drop from (words (now (src .entry)))) n (words (now (dst .exit))) ⌝ }
 {
-    let mut i = 0;
-    while i < n {
-        let w = mem_words::get(src, from + i);
-        mem_words::put(dst, at + i, w);
-        i += 1;
-    }
+    copy_bytes(src, 3 * from, 3 * n, dst, 3 * at)
 }
 
 // The word `w` with the `n` words of `vs` from `v` on for its level.
@@ -41,6 +52,36 @@ pub fn opened(w: Word, vs: &[u8], v: usize, n: usize) -> Word
     }
 }
 
+// Whether a word is a level. Read from lent bytes, this looks at the class alone.
+fn is_level(w: Word) -> bool
+    ensures { λ r. ⌜ r ≡ isLevel w ⌝ }
+{
+    match w {
+        Word::End => false,
+        Word::Free(_) => false,
+        Word::Level(_) => true,
+        Word::Num(_) => false,
+        Word::Place(_) => false,
+        Word::Inner(_) => false,
+        Word::Bad => false,
+    }
+}
+
+// Writes the word of `src` at `k`, opened with the `m` words of `vs` from `v` on, as the word of `dst` at `j`. A word that is
+// no level is copied with no look at what it is.
+fn put_opened(src: &[u8], k: usize, vs: &[u8], v: usize, m: usize, dst: &mut [u8], j: usize)
+    requires { ⌜ CanPutOpened (words (now src)) k (words (now vs)) v m (words (now dst)) j ⌝ }
+    ensures { λ _. ⌜ Stored (words (now (dst .entry))) j (openWord (run v m (words (now (vs .entry)))) (getD (words (now (src .entry))) k Bad)) (words (now (dst .exit))) ⌝ }
+{
+    let w = mem_words::get(src, k);
+    if is_level(w) {
+        let o = opened(w, vs, v, m);
+        mem_words::put(dst, j, o);
+        return;
+    }
+    copy(src, k, 1, dst, j)
+}
+
 // Copies as `copy` does, each word opened with the `m` words of `vs` from `v` on.
 pub fn copy_opened(
     src: &[u8],
@@ -57,8 +98,7 @@ pub fn copy_opened(
 {
     let mut i = 0;
     while i < n {
-        let o = opened(mem_words::get(src, from + i), vs, v, m);
-        mem_words::put(dst, at + i, o);
+        put_opened(src, from + i, vs, v, m, dst, at + i);
         i += 1;
     }
 }

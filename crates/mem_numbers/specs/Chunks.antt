@@ -9,7 +9,7 @@ use lib.ListN.{length, getD, set, take, drop, length-set, length-append, length-
 use lib.Seq.{sets, sets-eq, drop-drop, take-append-le, drop-append-le, take-at, drop-at, length-take-le, take-take, take-nil}
 
 -- the first n pieces of w bytes each
-pub chunks : ℕ → ℕ → List ℕ → List (List ℕ)
+unfoldable pub chunks : ℕ → ℕ → List ℕ → List (List ℕ)
 chunks zero w l = []
 chunks (suc n) w l = take w l ∷ chunks n w (drop w l)
 

@@ -12,11 +12,26 @@ use Rattle.mem_numbers.specs.Stored.{Stored}
 use Rattle.mem_numbers.specs.Numbers.{value, valueAt, stores, length-read, getD-read, stored-read, length-stores, zero-byte}
 use Rattle.mem_words.specs.declared.Word.{Word}
 use Rattle.mem_words.specs.declared.Word.the-variants.{End, Free, Level, Num, Place, Inner, Bad}
-use Rattle.mem_sorts.specs.Shapes.{pick, pick-past, kindOf, sortOf, kindNo, sortNo, kind-of-no, sort-of-no, kind-small, sort-small}
+use Rattle.mem_sorts.specs.declared.Kind.the-variants.{Or, And, Guarded, Member, Wait, Cond, Commit}
+use Rattle.mem_sorts.specs.declared.Sort.the-variants.{Locals, Store, True, Fail, Eq, App, Call, Comp, Hide, Clause, AskWait, AskCond, AskCommit}
+use Rattle.mem_sorts.specs.Shapes.{pick, pick-past, kindNo, sortNo}
+
+-- the word that closes a bracket has no value
+abbrev pub endWord : ℕ → Word
+endWord zero = End
+endWord (suc v) = Bad
+
+-- the word that opens a place, by the number of its kind
+abbrev pub placeWord : ℕ → Word
+placeWord v = pick (Place Or ∷ Place And ∷ Place Guarded ∷ Place Member ∷ Place Wait ∷ Place Cond ∷ Place Commit ∷ []) Bad v
+
+-- the word that opens another bracket, by the number of its sort
+abbrev pub innerWord : ℕ → Word
+innerWord v = pick (Inner Locals ∷ Inner Store ∷ Inner True ∷ Inner Fail ∷ Inner Eq ∷ Inner App ∷ Inner Call ∷ Inner Comp ∷ Inner Hide ∷ Inner Clause ∷ Inner AskWait ∷ Inner AskCond ∷ Inner AskCommit ∷ []) Bad v
 
 -- the word of a class and a value
 abbrev pub word : ℕ → ℕ → Word
-word k v = pick (End ∷ Free v ∷ Level v ∷ Num v ∷ Place (kindOf v) ∷ Inner (sortOf v) ∷ []) Bad k
+word k v = pick (endWord v ∷ Free v ∷ Level v ∷ Num v ∷ placeWord v ∷ innerWord v ∷ []) Bad k
 
 -- the class of a word
 abbrev pub classOf : Word → ℕ
@@ -44,7 +59,7 @@ readWord [] = Bad
 readWord (k ∷ bs) = word k (value bs)
 
 -- the whole words of a list of bytes
-pub words : List ℕ → List Word
+unfoldable pub words : List ℕ → List Word
 words l = map readWord (chunks (length l / 3) 3 l)
 
 -- a word whose value fits two bytes: every word that was read does
@@ -67,20 +82,68 @@ word-of End = refl
 word-of (Free v) = refl
 word-of (Level v) = refl
 word-of (Num v) = refl
-word-of (Place k) = ap Place (kind-of-no k)
-word-of (Inner s) = ap Inner (sort-of-no s)
+word-of (Place Or) = refl
+word-of (Place And) = refl
+word-of (Place Guarded) = refl
+word-of (Place Member) = refl
+word-of (Place Wait) = refl
+word-of (Place Cond) = refl
+word-of (Place Commit) = refl
+word-of (Inner Locals) = refl
+word-of (Inner Store) = refl
+word-of (Inner True) = refl
+word-of (Inner Fail) = refl
+word-of (Inner Eq) = refl
+word-of (Inner App) = refl
+word-of (Inner Call) = refl
+word-of (Inner Comp) = refl
+word-of (Inner Hide) = refl
+word-of (Inner Clause) = refl
+word-of (Inner AskWait) = refl
+word-of (Inner AskCond) = refl
+word-of (Inner AskCommit) = refl
 word-of Bad = refl
+
+end-small : (v : ℕ) → valueOf (endWord v) < 65536
+end-small zero = omega arith
+end-small (suc v) = omega arith
+
+place-small : (v : ℕ) → valueOf (placeWord v) < 65536
+place-small zero = omega arith
+place-small (suc zero) = omega arith
+place-small (suc (suc zero)) = omega arith
+place-small (suc (suc (suc zero))) = omega arith
+place-small (suc (suc (suc (suc zero)))) = omega arith
+place-small (suc (suc (suc (suc (suc zero))))) = omega arith
+place-small (suc (suc (suc (suc (suc (suc zero)))))) = omega arith
+place-small (suc (suc (suc (suc (suc (suc (suc v))))))) = omega arith
+
+inner-small : (v : ℕ) → valueOf (innerWord v) < 65536
+inner-small zero = omega arith
+inner-small (suc zero) = omega arith
+inner-small (suc (suc zero)) = omega arith
+inner-small (suc (suc (suc zero))) = omega arith
+inner-small (suc (suc (suc (suc zero)))) = omega arith
+inner-small (suc (suc (suc (suc (suc zero))))) = omega arith
+inner-small (suc (suc (suc (suc (suc (suc zero)))))) = omega arith
+inner-small (suc (suc (suc (suc (suc (suc (suc zero))))))) = omega arith
+inner-small (suc (suc (suc (suc (suc (suc (suc (suc zero)))))))) = omega arith
+inner-small (suc (suc (suc (suc (suc (suc (suc (suc (suc zero))))))))) = omega arith
+inner-small (suc (suc (suc (suc (suc (suc (suc (suc (suc (suc zero)))))))))) = omega arith
+inner-small (suc (suc (suc (suc (suc (suc (suc (suc (suc (suc (suc zero))))))))))) = omega arith
+inner-small (suc (suc (suc (suc (suc (suc (suc (suc (suc (suc (suc (suc zero)))))))))))) = omega arith
+inner-small (suc (suc (suc (suc (suc (suc (suc (suc (suc (suc (suc (suc (suc v))))))))))))) = omega arith
 
 pub word-small : (k v : ℕ) → v < 65536 → Small (word k v)
 word-small k v h = record { value = go k }
   where
     go : (k : ℕ) → valueOf (word k v) < 65536
-    go zero = omega arith
+    go zero = end-small v
     go (suc zero) = h
     go (suc (suc zero)) = h
     go (suc (suc (suc zero))) = h
-    go (suc (suc (suc (suc zero)))) = kind-small (kindOf v)
-    go (suc (suc (suc (suc (suc zero))))) = sort-small (sortOf v)
+    go (suc (suc (suc (suc zero)))) = place-small v
+    go (suc (suc (suc (suc (suc zero))))) = inner-small v
     go (suc (suc (suc (suc (suc (suc k)))))) = omega arith
 
 pub length-words : (l : List ℕ) → length (words l) ≡ length l / 3
@@ -109,11 +172,50 @@ stored-words l bs i k w h e c v =
 
 -- bytes that are all zero are words that are all `End`
 pub zero-words : (n i : ℕ) → i < length (words (replicate n 0)) → getD (words (replicate n 0)) i Bad ≡ End
-zero-words n i h = getD-words (replicate n 0) i h ∙ ap (λ (k : ℕ). word k (valueAt 2 (replicate n 0) (3 * i + 1))) (zero-byte n (3 * i))
+zero-words n i h =
+    getD-words (replicate n 0) i h
+    ∙ ap₂ word (zero-byte n (3 * i)) (ap₂ (λ (x y : ℕ). x + (y + 0 * 256) * 256) (zero-byte n (3 * i + 1)) (zero-byte n (3 * i + 1 + 1)))
 
 -- a class past the last is bad
 pub word-past : (k v : ℕ) → 6 ≤ k → Bad ≡ word k v
-word-past k v h = pick-past (End ∷ Free v ∷ Level v ∷ Num v ∷ Place (kindOf v) ∷ Inner (sortOf v) ∷ []) Bad k h
+word-past k v h = pick-past (endWord v ∷ Free v ∷ Level v ∷ Num v ∷ placeWord v ∷ innerWord v ∷ []) Bad k h
+
+-- what a function of a number gives at a number that is known
+pub number-at : (f : ℕ → Word) (v j : ℕ) (x : Word) → v ≡ j → x ≡ f j → x ≡ f v
+number-at f v j x e p = p ∙ ap f (sym e)
 
 pub word-at : (k j v : ℕ) (x : Word) → k ≡ j → x ≡ word j v → x ≡ word k v
 word-at k j v x e p = p ∙ ap (λ (i : ℕ). word i v) (sym e)
+
+-- a number that is none of the others
+pub end-rest : (v : ℕ) → (v ≡ 0 → ⊥) → Bad ≡ endWord v
+end-rest zero n0 = absurd (n0 refl)
+end-rest (suc v) n0 = refl
+
+-- a number that is none of the others
+pub place-rest : (v : ℕ) → (v ≡ 0 → ⊥) → (v ≡ 1 → ⊥) → (v ≡ 2 → ⊥) → (v ≡ 3 → ⊥) → (v ≡ 4 → ⊥) → (v ≡ 5 → ⊥) → (v ≡ 6 → ⊥) → Bad ≡ placeWord v
+place-rest zero n0 n1 n2 n3 n4 n5 n6 = absurd (n0 refl)
+place-rest (suc zero) n0 n1 n2 n3 n4 n5 n6 = absurd (n1 refl)
+place-rest (suc (suc zero)) n0 n1 n2 n3 n4 n5 n6 = absurd (n2 refl)
+place-rest (suc (suc (suc zero))) n0 n1 n2 n3 n4 n5 n6 = absurd (n3 refl)
+place-rest (suc (suc (suc (suc zero)))) n0 n1 n2 n3 n4 n5 n6 = absurd (n4 refl)
+place-rest (suc (suc (suc (suc (suc zero))))) n0 n1 n2 n3 n4 n5 n6 = absurd (n5 refl)
+place-rest (suc (suc (suc (suc (suc (suc zero)))))) n0 n1 n2 n3 n4 n5 n6 = absurd (n6 refl)
+place-rest (suc (suc (suc (suc (suc (suc (suc v))))))) n0 n1 n2 n3 n4 n5 n6 = refl
+
+-- a number that is none of the others
+pub inner-rest : (v : ℕ) → (v ≡ 0 → ⊥) → (v ≡ 1 → ⊥) → (v ≡ 2 → ⊥) → (v ≡ 3 → ⊥) → (v ≡ 4 → ⊥) → (v ≡ 5 → ⊥) → (v ≡ 6 → ⊥) → (v ≡ 7 → ⊥) → (v ≡ 8 → ⊥) → (v ≡ 9 → ⊥) → (v ≡ 10 → ⊥) → (v ≡ 11 → ⊥) → (v ≡ 12 → ⊥) → Bad ≡ innerWord v
+inner-rest zero n0 n1 n2 n3 n4 n5 n6 n7 n8 n9 n10 n11 n12 = absurd (n0 refl)
+inner-rest (suc zero) n0 n1 n2 n3 n4 n5 n6 n7 n8 n9 n10 n11 n12 = absurd (n1 refl)
+inner-rest (suc (suc zero)) n0 n1 n2 n3 n4 n5 n6 n7 n8 n9 n10 n11 n12 = absurd (n2 refl)
+inner-rest (suc (suc (suc zero))) n0 n1 n2 n3 n4 n5 n6 n7 n8 n9 n10 n11 n12 = absurd (n3 refl)
+inner-rest (suc (suc (suc (suc zero)))) n0 n1 n2 n3 n4 n5 n6 n7 n8 n9 n10 n11 n12 = absurd (n4 refl)
+inner-rest (suc (suc (suc (suc (suc zero))))) n0 n1 n2 n3 n4 n5 n6 n7 n8 n9 n10 n11 n12 = absurd (n5 refl)
+inner-rest (suc (suc (suc (suc (suc (suc zero)))))) n0 n1 n2 n3 n4 n5 n6 n7 n8 n9 n10 n11 n12 = absurd (n6 refl)
+inner-rest (suc (suc (suc (suc (suc (suc (suc zero))))))) n0 n1 n2 n3 n4 n5 n6 n7 n8 n9 n10 n11 n12 = absurd (n7 refl)
+inner-rest (suc (suc (suc (suc (suc (suc (suc (suc zero)))))))) n0 n1 n2 n3 n4 n5 n6 n7 n8 n9 n10 n11 n12 = absurd (n8 refl)
+inner-rest (suc (suc (suc (suc (suc (suc (suc (suc (suc zero))))))))) n0 n1 n2 n3 n4 n5 n6 n7 n8 n9 n10 n11 n12 = absurd (n9 refl)
+inner-rest (suc (suc (suc (suc (suc (suc (suc (suc (suc (suc zero)))))))))) n0 n1 n2 n3 n4 n5 n6 n7 n8 n9 n10 n11 n12 = absurd (n10 refl)
+inner-rest (suc (suc (suc (suc (suc (suc (suc (suc (suc (suc (suc zero))))))))))) n0 n1 n2 n3 n4 n5 n6 n7 n8 n9 n10 n11 n12 = absurd (n11 refl)
+inner-rest (suc (suc (suc (suc (suc (suc (suc (suc (suc (suc (suc (suc zero)))))))))))) n0 n1 n2 n3 n4 n5 n6 n7 n8 n9 n10 n11 n12 = absurd (n12 refl)
+inner-rest (suc (suc (suc (suc (suc (suc (suc (suc (suc (suc (suc (suc (suc v))))))))))))) n0 n1 n2 n3 n4 n5 n6 n7 n8 n9 n10 n11 n12 = refl

@@ -6,6 +6,7 @@ use mathlib.Core.Option.{Option, some, none}
 use Prim.Native.Nat.{ℕ, _+_, _-_, _*_, _≤_, _<_}
 use native.Mathlib.Omega.{arith}
 use lib.ListN.{length}
+use Rattle.constraint.proofs.Lists.{none-some}
 use Rattle.constraint.specs.Constraint.{In}
 use Rattle.akl.specs.Base.{Name, flat}
 use Rattle.akl.specs.Token.{Token}
@@ -21,7 +22,7 @@ use Rattle.read_pieces.specs.Worst.{Lower, Lowest, lowest-none, lowest-both}
 use Rattle.read_pieces.specs.Reads.{heads, Spelling, Scope, CanRead}
 use Rattle.read_pieces.specs.declared.Read.{Read}
 use Rattle.read_pieces.specs.declared.Read.the-variants.{Done, Three, Odd, Full}
-use Rattle.read_heads.proofs.Sofar.{none-some, Sofar, sofar-start, sofar-at, sofar-more, sofar-all, sofar-next}
+use Rattle.read_heads.proofs.Sofar.{Sofar, sofar-start, sofar-at, sofar-more, sofar-all, sofar-next}
 use Rattle.read_heads.proofs.Heading.{in-flat}
 use Rattle.read_definitions.specs.Definitions.{definition-words, definitions-words, Answer, Defines, CanBodies, Bodies}
 

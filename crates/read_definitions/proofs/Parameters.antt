@@ -16,12 +16,8 @@ use Rattle.read_scopes.specs.Scopes.{Bound, Bindings}
 use Rattle.read_scopes.specs.Contracts.{CanBind, CanUnbind, Unbound, can-unbind, unbound-back}
 use Rattle.read_scopes.specs.Spelled.{repeated-names, in-ids}
 use Rattle.read_pieces.specs.Reads.{Spelling, Scope, CanRead}
-use Rattle.read_pieces.proofs.Scoping.{names-ids}
+use Rattle.read_pieces.proofs.Scoping.{number-is, names-ids}
 use Rattle.read_definitions.specs.Definitions.{Opened}
-
-number-is : (L : List ℕ) (i : ℕ) → getD L i 0 / 256 ≡ numberAt L i
-unfolding numberAt
-number-is L i = sym (name-default L i 255 (omega arith))
 
 module _ (L B S Q D : List ℕ) (O : List Word) (at k : ℕ) (can : CanRead L B S Q D O at k 0 0) (name count body : ℕ) (op : Opened L at name count body) where
   -- where the body begins

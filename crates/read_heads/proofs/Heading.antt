@@ -12,6 +12,7 @@ use lib.Dec.{ltb}
 use lib.ListN.{length, set, take}
 use lib.Seq.{take-suc-set, length-take-le}
 use borrow.Author.Tests.{lt-ltb}
+use Rattle.constraint.proofs.Lists.{none-some}
 use Rattle.constraint.specs.Constraint.{In}
 use Rattle.akl.specs.Base.{Name, size, flat, repeats, _>>=_}
 use Rattle.akl.specs.Limits.{most-definitions, most-arguments}
@@ -36,7 +37,7 @@ use Rattle.read_pieces.proofs.Simples.{read-first}
 use Rattle.read_heads.specs.Heads.{CanHead, HeadAt, HeadTo, Heads, HeadedTo}
 use Rattle.read_heads.specs.declared.Head.the-variants as head
 use Rattle.read_heads.specs.declared.Headed.the-variants.{All, Many, Odd, Short}
-use Rattle.read_heads.proofs.Sofar.{none-some, Sofar, sofar-start, sofar-at, sofar-more, sofar-all, sofar-next}
+use Rattle.read_heads.proofs.Sofar.{Sofar, sofar-start, sofar-at, sofar-more, sofar-all, sofar-next}
 
 -- ---------------------------------------------------------------------------------------------
 -- One head.

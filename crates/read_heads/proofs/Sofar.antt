@@ -6,6 +6,7 @@ use mathlib.Core.Option.{Option, some, none, Option·some-injective}
 use Prim.Native.Nat.{ℕ, suc, _+_, _≤_, _<_}
 use native.Mathlib.Omega.{arith}
 use lib.ListN.{length}
+use Rattle.constraint.proofs.Lists.{none-some}
 use Rattle.constraint.specs.Constraint.{In}
 use Rattle.akl.specs.Base.{Name, _>>=_}
 use Rattle.akl.specs.Token.{Token}
@@ -15,9 +16,6 @@ use Rattle.descent.specs.Descent.{the-definition}
 use Rattle.descent.proofs.Whole.{program-empty, program-more, program-none}
 use Rattle.read_phrases.specs.Codes.{toks, toks-none, toks-some}
 use Rattle.read_pieces.proofs.Simples.{read-first}
-
-pub none-some : {A : Type 0} {x : A} → _≡_ {A = Option A} none (some x) → ⊥
-none-some {A} z = let b : _≡_ {A = ℕ} 0 1 = ap (λ (o : Option A). elim o as (λ v. ℕ) [ none ↦ 0 | some x ↦ 1 ]) z in omega arith
 
 abbrev NotEmpty : List Token → Type 0
 NotEmpty [] = ⊥

@@ -10,6 +10,7 @@ use native.Mathlib.Nat.{not-suc-le-zero, le-of-suc-le-suc}
 use lib.Dec.{eqb}
 use lib.ListN.{length, getD, List·getD-eq-default}
 use borrow.Author.Tests.{eq-eqb, ne-eqb}
+use Rattle.mem_numbers.specs.Stored.{getD-any}
 use Rattle.constraint.specs.Constraint.{ctrue, cfail, ceq, capp}
 use Rattle.akl.specs.Base.{Name, bytes, size, same, when, if, _>>=_}
 use Rattle.akl.specs.Token.{Token, open-bracket, close-bracket, comma, colon, equals}
@@ -23,12 +24,6 @@ use Rattle.read_phrases.specs.Phrases as p
 use Rattle.read_phrases.specs.declared.Phrase.the-variants.{To, Odd}
 use Rattle.read_phrases.specs.declared.Constraint.the-variants.{True, Fail, Same, Made}
 use Rattle.read_phrases.specs.declared.Simple.the-variants.{Atom, Program, Bracket, Odd as Nothing}
-
--- the default does not matter inside
-getD-any : (L : List ℕ) (i a b : ℕ) → i < length L → getD L i a ≡ getD L i b
-getD-any [] i a b h = absurd (not-suc-le-zero h)
-getD-any (x ∷ L) zero a b h = refl
-getD-any (x ∷ L) (suc i) a b h = getD-any L i a b (le-of-suc-le-suc h)
 
 pub kind-got : (L : List ℕ) (i c r : ℕ) → i < length L → c ≡ getD L i 0 → r ≡ c % 256 → r ≡ kindAt L i
 unfolding kindAt

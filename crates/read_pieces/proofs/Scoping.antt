@@ -18,7 +18,7 @@ use Rattle.read_scopes.specs.Contracts.{CanBind, CanUnbind, Unbound, can-unbind
 use Rattle.read_scopes.specs.Spelled.{Own, repeated-names, in-ids}
 use Rattle.read_pieces.specs.Reads.{Spelling, Scope, CanRead}
 
-number-is : (L : List ℕ) (i : ℕ) → getD L i 0 / 256 ≡ numberAt L i
+pub number-is : (L : List ℕ) (i : ℕ) → getD L i 0 / 256 ≡ numberAt L i
 unfolding numberAt
 number-is L i = sym (name-default L i 255 (omega arith))
 

@@ -39,7 +39,7 @@ use Rattle.refusals.specs.declared.Refusal.{Refusal}
 use Rattle.refusals.specs.declared.Refusal.the-variants.{TooMany}
 use Rattle.refusals.specs.Refusals.{numberOf, Textual}
 use Rattle.refusals.proofs.Faults.{program-textual}
-use Rattle.read_wholes.proofs.Spelled.{same-refl, same-eq}
+use Rattle.akl.proofs.Names.{same-refl, same-eq}
 use Rattle.read_wholes.proofs.Tables.{Zeroed, zeroed-spells, seg-whole}
 use Rattle.read_programs.specs.declared.Programmed.the-variants as programmed
 use Rattle.read_programs.specs.Checks.{CanCheck, CheckedTo}

@@ -11,6 +11,7 @@ use lib.Dec.{ltb}
 use lib.ListN.{length, take, length-map}
 use lib.Seq.{length-take-le}
 use borrow.Author.Tests.{lt-ltb, le-ltb}
+use Rattle.constraint.proofs.Lists.{none-some}
 use Rattle.constraint.specs.Constraint.{In}
 use Rattle.akl.specs.Base.{Name, size, least, _>>=_}
 use Rattle.akl.specs.Limits.{most-query-variables}
@@ -211,9 +212,6 @@ module _ {L B S Q D : List ℕ} {O : List Word} {B₁ B′ S′ Q′ : List ℕ}
             let y = parsed (toks w L 0) t p in
             absurd (none-some (sym (r .to w num [] v (zeroed-spells z s) (z .scope)) ∙ y .1));
       }
-    where
-      none-some : {u : Statement × List Token} → none ≡ some u → ⊥
-      none-some e = let z : _≡_ {A = ℕ} 0 1 = cc in omega arith
 
   pub read-full : Answer a-statement true L B₁ S Q D O 0 0 0 0 0 B′ S′ Q′ O′ Full → CheckedTo L B S Q D O names Q′ O′ queried.Short
   read-full r = record { order = lq; out = lo; answer = go (r .to) }

@@ -11,6 +11,7 @@ use lib.Dec.{eqb}
 use lib.ListN.{length, getD, take}
 use borrow.Author.Tests.{eqb-true, eqb-false, eq-eqb}
 use Rattle.constraint.specs.Constraint.{In}
+use Rattle.akl.proofs.Names.{same-refl, same-eq}
 use Rattle.akl.specs.Base.{Name, same, any, repeats, first, last, if, _>>=_}
 use Rattle.akl.specs.Base as akl
 use Rattle.read_lookups.specs.Places.{ids, behind, place, among, repeated}
@@ -27,22 +28,6 @@ Own w x l = (y : ℕ) → In y l → w x ≡ w y → x ≡ y
 abbrev pub position : ℕ → Option ℕ
 position zero = none
 position (suc n) = some n
-
-same-refl : (x : Name) → same x x ≡ true
-unfolding same
-same-refl [] = refl
-same-refl (a ∷ x) = ap₂ _&&_ (eq-eqb a a refl) (same-refl x)
-
-same-eq : (x y : Name) → same x y ≡ true → x ≡ y
-unfolding same
-same-eq [] [] t = refl
-same-eq [] (b ∷ y) t = absurd (let z : _≡_ {A = ℕ} 0 1 = cc in omega arith)
-same-eq (a ∷ x) [] t = absurd (let z : _≡_ {A = ℕ} 0 1 = cc in omega arith)
-same-eq (a ∷ x) (b ∷ y) t = go (eqb a b) refl t (same-eq x y)
-  where
-    go : (e : Bool) → eqb a b ≡ e → e && same x y ≡ true → (same x y ≡ true → x ≡ y) → a ∷ x ≡ b ∷ y
-    go true e t f = ap₂ _∷_ (eqb-true a b e) (f t)
-    go false e t f = absurd (let z : _≡_ {A = ℕ} 0 1 = cc in omega arith)
 
 -- two numbers that w spells apart
 same-name : (w : ℕ → Name) (x y : ℕ) → (w x ≡ w y → x ≡ y) → same (w x) (w y) ≡ eqb x y

@@ -11,6 +11,8 @@ use lib.Dec.{eqb}
 use lib.ListN.{length, getD, take}
 use lib.Seq.{getD-take, length-take-le}
 use borrow.Author.Tests.{eq-eqb, eqb-true, eqb-false}
+use Rattle.mem_numbers.specs.Stored.{getD-any}
+use Rattle.akl.proofs.Names.{same-refl, same-eq}
 use Rattle.akl.specs.Base.{Name, same, bytes}
 use Rattle.akl.specs.Token.{tokens}
 use Rattle.read_tokens.specs.Kinds.{tokenOf}
@@ -30,22 +32,6 @@ pub record Entries (text N : List ℕ) (n : ℕ) (K′ N′ H′ S′ : List ℕ
   pub tokens : tokens text ≡ some (toks (named N′) (take k K′) 0)
   pub known : Known (take k K′)
   pub reserved : Reserved (named N′) (take k K′)
-
-same-refl : (x : Name) → same x x ≡ true
-unfolding same
-same-refl [] = refl
-same-refl (a ∷ x) = ap₂ _&&_ (eq-eqb a a refl) (same-refl x)
-
-same-eq : (x y : Name) → same x y ≡ true → x ≡ y
-unfolding same
-same-eq [] [] t = refl
-same-eq [] (b ∷ y) t = absurd (let z : _≡_ {A = ℕ} 0 1 = cc in omega arith)
-same-eq (a ∷ x) [] t = absurd (let z : _≡_ {A = ℕ} 0 1 = cc in omega arith)
-same-eq (a ∷ x) (b ∷ y) t = go (eqb a b) refl t (same-eq x y)
-  where
-    go : (e : Bool) → eqb a b ≡ e → e && same x y ≡ true → (same x y ≡ true → x ≡ y) → a ∷ x ≡ b ∷ y
-    go true e t f = ap₂ _∷_ (eqb-true a b e) (f t)
-    go false e t f = absurd (let z : _≡_ {A = ℕ} 0 1 = cc in omega arith)
 
 -- two numbers that w spells apart
 same-name : (w : ℕ → Name) (x y : ℕ) → (w x ≡ w y → x ≡ y) → same (w x) (w y) ≡ eqb x y
@@ -79,12 +65,6 @@ kind-tok (suc (suc (suc (suc (suc (suc (suc (suc (suc (suc (suc (suc (suc (suc m
 pub token-tok : (N : List ℕ) (c : ℕ) → c % 256 < 14 → tokenAt N c ≡ tok (named N) c
 unfolding tokenAt tok
 token-tok N c h = kind-tok (c % 256) (named N (c / 256)) h
-
--- an element that is there does not depend on what stands for the missing ones
-getD-any : (l : List ℕ) (i d e : ℕ) → i < length l → getD l i d ≡ getD l i e
-getD-any [] i d e h = absurd (not-suc-le-zero h)
-getD-any (x ∷ l) zero d e h = refl
-getD-any (x ∷ l) (suc i) d e h = getD-any l i d e (le-of-suc-le-suc h)
 
 module _ {text N H S N′ H′ S′ K′ : List ℕ} {n k m : ℕ} (X : Lexicon N H S n) (T : Table text N n N′ H′ S′ K′ k m) where
   -- an entry of the table

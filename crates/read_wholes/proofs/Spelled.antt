@@ -8,28 +8,13 @@ use native.Mathlib.Decide.{ℕ-discrete}
 use lib.Dec.{eqb}
 use borrow.Author.Tests.{eq-eqb, eqb-true}
 use Rattle.akl.specs.Base.{Name, same, bytes, bytes-from, if}
+use Rattle.akl.proofs.Names.{same-refl, same-eq}
 use Rattle.read_phrases.specs.Codes.{numberAt}
 use Rattle.read_phrases.specs.Phrases.{Reserved}
 use Rattle.read_pieces.specs.Reads.{Spelling}
 
 -- ---------------------------------------------------------------------------------------------
 -- Numbers for names that are spelled apart.
-
-pub same-refl : (x : Name) → same x x ≡ true
-unfolding same
-same-refl [] = refl
-same-refl (a ∷ x) = ap₂ _&&_ (eq-eqb a a refl) (same-refl x)
-
-pub same-eq : (x y : Name) → same x y ≡ true → x ≡ y
-unfolding same
-same-eq [] [] t = refl
-same-eq [] (b ∷ y) t = absurd (let z : _≡_ {A = ℕ} 0 1 = cc in omega arith)
-same-eq (a ∷ x) [] t = absurd (let z : _≡_ {A = ℕ} 0 1 = cc in omega arith)
-same-eq (a ∷ x) (b ∷ y) t = go (eqb a b) refl t (same-eq x y)
-  where
-    go : (e : Bool) → eqb a b ≡ e → e && same x y ≡ true → (same x y ≡ true → x ≡ y) → a ∷ x ≡ b ∷ y
-    go true e t f = ap₂ _∷_ (eqb-true a b e) (f t)
-    go false e t f = absurd (let z : _≡_ {A = ℕ} 0 1 = cc in omega arith)
 
 -- the number below m that w spells as x
 unfoldable pub numbered : (ℕ → Name) → ℕ → Name → ℕ

@@ -9,6 +9,7 @@ use native.Mathlib.Nat.{not-suc-le-zero, le-of-suc-le-suc}
 use native.Mathlib.Omega.{arith}
 use lib.ListN.{length, getD, take, replicate, length-replicate}
 use lib.Seq.{length-take-le, getD-take}
+use Rattle.mem_numbers.specs.Stored.{getD-any}
 use Rattle.constraint.specs.Constraint.{In}
 use Rattle.akl.specs.Base.{Name, _>>=_}
 use Rattle.akl.specs.Token.{Token, tokens}
@@ -57,12 +58,6 @@ zeroed-spells {w = w} {num = num} z s = subst (Spelling w num) (sym (z .long)) s
 pub seg-whole : (O : List Word) (k : ℕ) → seg O 0 k ≡ take k O
 unfolding seg
 seg-whole O k = let e : k - 0 ≡ k = omega arith in ap (λ (n : ℕ). take n O) e
-
--- an element that is there does not depend on what stands for the missing ones
-getD-any : (l : List ℕ) (i d e : ℕ) → i < length l → getD l i d ≡ getD l i e
-getD-any [] i d e h = absurd (not-suc-le-zero h)
-getD-any (x ∷ l) zero d e h = refl
-getD-any (x ∷ l) (suc i) d e h = getD-any l i d e (le-of-suc-le-suc h)
 
 -- heads are the same by spellings that agree on them
 pub heads-same : (D : List ℕ) (w v : ℕ → Name) → ((c : ℕ) → In c D → w (c / 256) ≡ v (c / 256)) → heads w D ≡ heads v D

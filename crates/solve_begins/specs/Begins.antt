@@ -3,7 +3,7 @@ use Prim.Native.Nat.{ℕ}
 use Rattle.mem_words.specs.declared.Word.{Word}
 use Rattle.mem_words.specs.declared.Word.the-variants.{End, Free, Level, Num, Place, Inner, Bad}
 use Rattle.mem_sorts.specs.declared.Sort.{Sort}
-use Rattle.mem_sorts.specs.declared.Sort.the-variants.{Locals, Store as StoreSort, True, Fail, Eq, App, Call, Comp, Hide, Clause, AskWait, AskCond, AskCommit, NoSort}
+use Rattle.mem_sorts.specs.declared.Sort.the-variants.{Locals, Store as StoreSort, True, Fail, Eq, App, Call, Comp, Hide, Clause, AskWait, AskCond, AskCommit}
 
 -- what a word begins: 1 for fail, 2 for an equation, 3 for an application, 0 for nothing or true
 abbrev pub beginsSort : Sort → ℕ
@@ -20,7 +20,6 @@ beginsSort Clause = 0
 beginsSort AskWait = 0
 beginsSort AskCond = 0
 beginsSort AskCommit = 0
-beginsSort NoSort = 0
 
 abbrev pub beginsOf : Word → ℕ
 beginsOf End = 0

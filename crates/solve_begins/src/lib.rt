@@ -21,7 +21,6 @@ fn begins_sort(s: Sort) -> usize
         Sort::AskWait => 0,
         Sort::AskCond => 0,
         Sort::AskCommit => 0,
-        Sort::NoSort => 0,
     }
 }
 

@@ -12,7 +12,7 @@ use Rattle.constraint.specs.Solve.{Bnd, free, fun}
 use Rattle.mem_words.specs.declared.Word.{Word}
 use Rattle.mem_words.specs.declared.Word.the-variants.{End, Free, Level, Num, Place, Inner, Bad}
 use Rattle.mem_sorts.specs.declared.Sort.{Sort}
-use Rattle.mem_sorts.specs.declared.Sort.the-variants.{Locals, Store as StoreSort, True, Fail, Eq, App, Call, Comp, Hide, Clause, AskWait, AskCond, AskCommit, NoSort}
+use Rattle.mem_sorts.specs.declared.Sort.the-variants.{Locals, Store as StoreSort, True, Fail, Eq, App, Call, Comp, Hide, Clause, AskWait, AskCond, AskCommit}
 
 -- the variable of a word; 0 for a word that is none
 abbrev pub varOf : Word → ℕ
@@ -97,7 +97,6 @@ begun lab Clause r = []
 begun lab AskWait r = []
 begun lab AskCond r = []
 begun lab AskCommit r = []
-begun lab NoSort r = []
 
 abbrev pub starts : (ℕ → Label) → Word → List Word → Store
 starts lab End r = []

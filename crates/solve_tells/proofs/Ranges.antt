@@ -15,7 +15,7 @@ use Rattle.constraint.proofs.FormSteps.{Holds}
 use Rattle.mem_words.specs.declared.Word.{Word}
 use Rattle.mem_words.specs.declared.Word.the-variants.{End, Free, Level, Num, Place, Inner, Bad}
 use Rattle.mem_sorts.specs.declared.Sort.{Sort}
-use Rattle.mem_sorts.specs.declared.Sort.the-variants.{Locals, Store as StoreSort, True, Fail, Eq, App, Call, Comp, Hide, Clause, AskWait, AskCond, AskCommit, NoSort}
+use Rattle.mem_sorts.specs.declared.Sort.the-variants.{Locals, Store as StoreSort, True, Fail, Eq, App, Call, Comp, Hide, Clause, AskWait, AskCond, AskCommit}
 use Rattle.solve_fields.specs.Read.{varOf, numOf, argsOf, labelAt, argsAt, termAt, tabOf, treeAt, told, starts, begun}
 use Rattle.solve_begins.specs.Begins.{beginsOf, beginsSort}
 use Rattle.solve_tells.specs.Tells.{oneAt, rangeOf}
@@ -80,7 +80,6 @@ starts-none lab (Inner s) r ρ a b c = go s a b c
     go AskWait a b c = tt
     go AskCond a b c = tt
     go AskCommit a b c = tt
-    go NoSort a b c = tt
 starts-none lab Bad r ρ a b c = tt
 
 pub starts-fail : (lab : ℕ → Label) (w : Word) (r : List Word) → beginsOf w ≡ 1 → starts lab w r ≡ cfail ∷ []
@@ -105,7 +104,6 @@ starts-fail lab (Inner s) r e = go s e
     go AskWait e = absurd (omega arith)
     go AskCond e = absurd (omega arith)
     go AskCommit e = absurd (omega arith)
-    go NoSort e = absurd (omega arith)
 starts-fail lab Bad r e = absurd (omega arith)
 
 pub starts-eq : (lab : ℕ → Label) (w : Word) (r : List Word) → beginsOf w ≡ 2 → starts lab w r ≡ ceq (varOf (getD r 0 Bad)) (varOf (getD r 1 Bad)) ∷ []
@@ -130,7 +128,6 @@ starts-eq lab (Inner s) r e = go s e
     go AskWait e = absurd (omega arith)
     go AskCond e = absurd (omega arith)
     go AskCommit e = absurd (omega arith)
-    go NoSort e = absurd (omega arith)
 starts-eq lab Bad r e = absurd (omega arith)
 
 pub starts-app : (lab : ℕ → Label) (w : Word) (r : List Word) → beginsOf w ≡ 3 → starts lab w r ≡ capp (varOf (getD r 0 Bad)) (lab (numOf (getD r 1 Bad))) (argsOf (drop 2 r)) ∷ []
@@ -155,7 +152,6 @@ starts-app lab (Inner s) r e = go s e
     go AskWait e = absurd (omega arith)
     go AskCond e = absurd (omega arith)
     go AskCommit e = absurd (omega arith)
-    go NoSort e = absurd (omega arith)
 starts-app lab Bad r e = absurd (omega arith)
 
 -- an equation at i

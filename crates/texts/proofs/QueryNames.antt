@@ -9,6 +9,7 @@ use native.Mathlib.Omega.{arith}
 use lib.Dec.{T, eqb, eqb→eq, eqb-refl}
 use Rattle.constraint.specs.Constraint.{Con, ctrue, cfail, ceq, capp, mapCon, In}
 use Rattle.constraint.proofs.Lists.{and-T, or-T, not-T, In-append}
+use Rattle.akl.proofs.Names.{same-eq-T as same-eq, same-refl-T as same-refl}
 use Rattle.akl.specs.Base.{Name, size, same, among, any, all, flat, repeats, first, last, once, if, _>>=_}
 use Rattle.akl.specs.Syntax.{Var, number, level, Stmt, atom, call, comp, hide, choice, Clauses, no-more, clause}
 use Rattle.akl.specs.Grammar.{Statement, single, joined, Simple, constraint, program, bracket, Bracket, plain, hiding, choosing, Clause, written, Others, end, and-also}
@@ -21,18 +22,6 @@ use Rattle.texts.proofs.ReadFits.{first-size, last-among}
 
 -- ---------------------------------------------------------------------------------------------
 -- Names are compared as they are spelled.
-
-pub same-eq : (x y : Name) → T (same x y) → x ≡ y
-unfolding same
-same-eq [] [] t = refl
-same-eq (a ∷ x) (b ∷ y) t =
-    let k = and-T (eqb a b) (same x y) .0 t in
-    λ i. eqb→eq a b (k .0) i ∷ same-eq x y (k .1) i
-
-pub same-refl : (x : Name) → T (same x x)
-unfolding same
-same-refl [] = tt
-same-refl (a ∷ x) = and-T (eqb a a) (same x x) .1 (eqb-refl a, same-refl x)
 
 same-sym : (x y : Name) → T (same x y) → T (same y x)
 same-sym x y t = subst (λ z. T (same z x)) (same-eq x y t) (same-refl x)

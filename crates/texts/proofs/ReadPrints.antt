@@ -19,7 +19,7 @@ use Rattle.akl.specs.Parse.{Read, mark-number, after-token, after, an-operator-
 use Rattle.akl.specs.WellFormed.{is-small, begins, spelled-name, spelled-digits}
 use Rattle.texts.specs.Spelled.{SpelledToken, SpelledTokens}
 use Rattle.texts.specs.Writable.{NotReserved, Writable, WritableSimple, WritableBracket, WritableClause, WritableOthers, WritableDefinition, WritableProgram}
-use Rattle.texts.proofs.QueryNames.{same-eq}
+use Rattle.akl.proofs.Names.{same-eq-T as same-eq}
 
 -- the tokens ts are those of what was read, before the rest, which are spelled too
 abbrev Prints : {A : Type 0} → (A → List Token → Type 0) → Read A → Type 0

@@ -9,7 +9,7 @@ use native.Mathlib.Omega.{arith}
 use native.Mathlib.Nat.{not-suc-le-zero}
 use lib.Dec.{T, leb, ltb, eqb, ltb→lt, lt→ltb, leb→le, le→leb, eqb→eq}
 use Rattle.constraint.specs.Constraint.{Con, ctrue, cfail, ceq, capp, mapCon, In}
-use Rattle.constraint.proofs.Lists.{and-T, In-append}
+use Rattle.constraint.proofs.Lists.{none-some, and-T, In-append}
 use Rattle.akl.specs.Base.{Name, size, same, all, range, if}
 use Rattle.akl.specs.Limits.{most-depth, most-definitions}
 use Rattle.akl.specs.Syntax.{Var, number, level, Op, Stmt, atom, call, comp, hide, choice, Clauses, no-more, clause, Def, Program, defined, open-level, open-var, opened, opened-clauses}
@@ -227,9 +227,6 @@ module _ (P : Program) where
   body-of : (ds : Program) (p : Name) (n : ℕ) (b : Stmt) → T (all (definition-passes P) ds) → defined ds p n ≡ some b → Passes P no-number n b
   unfolding all defined definition-passes
   body-of [] p n b h e = absurd (none-some e)
-    where
-      none-some : _≡_ {A = Option Stmt} none (some b) → ⊥
-      none-some q = let z : _≡_ {A = ℕ} 0 1 = cc in omega arith
   body-of (d ∷ ds) p n b h e = go (same (d .name) p && eqb (d .arity) n) refl e (body-of ds p n b (k .1))
     where
       k : T (definition-passes P d) × T (all (definition-passes P) ds)

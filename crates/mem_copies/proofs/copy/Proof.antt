@@ -1,71 +1,35 @@
-use mathlib.Core.Path.{_≡_, refl, sym, ap, _∙_}
-use Prim.Native.Nat.{_-_, _≤_}
 use native.Mathlib.Omega.{arith}
-use lib.ListN.{length, getD, drop, length-drop}
-use lib.Seq.{getD-drop}
-use Rattle.mem_words.specs.declared.Word.the-variants.{Bad}
 use Rattle.mem_words.specs.Words.{words, length-words}
-use Rattle.mem_copies.specs.Runs.{copied, copied-none, copied-more}
+use Rattle.mem_copies.specs.Bytes.{words-copied}
+use borrow.Author.Needs.{needs}
 use Rattle.mem_copies.proofs.copy.Statement.{statement}
 use Rattle.mem_copies.proofs.copy.Tie as tie
 
-abbrev Inv-loop : tie.InvT-loop
-Inv-loop src from n dst₀ at i₀ dst i = (i ≤ n) × (length dst ≡ length dst₀) × (length (words dst) ≡ length (words dst₀)) × (words dst ≡ copied (words dst₀) at (drop from (words src)) i)
+mul-copy-bytes : tie.Need-mul-copy-bytes
+mul-copy-bytes c = omega (arith, length-words (c .before .before .args .src .now), c .before .before .pre .source)
 
-abbrev μ-loop : tie.MeasureT-loop
-μ-loop src from n dst₀ at i₀ dst i = n - i
+mul-copy-bytes-2 : tie.Need-mul-copy-bytes-2
+mul-copy-bytes-2 c = omega (arith, length-words (c .before .before .args .src .now), c .before .before .pre .source)
 
-loop-holds : tie.Need-loop-holds Inv-loop μ-loop
-loop-holds c = (omega arith, refl, refl, copied-none _ _ _)
+mul-copy-bytes-3 : tie.Need-mul-copy-bytes-3
+mul-copy-bytes-3 c = omega (arith, length-words (c .before .before .before .args .dst .now), c .before .before .before .pre .room)
 
-add-get : tie.Need-add-get Inv-loop μ-loop
-add-get c = omega (arith, length-words (c .before .before .before .before .args .src .now), c .before .before .before .before .pre .source)
+copy-bytes-requires : tie.Need-copy-bytes-requires
+copy-bytes-requires c κs = record { source = omega (arith, length-words (c .before .before .before .args .src .now), c .before .before .before .pre .source); room = omega (arith, length-words (c .before .before .before .args .dst .now), c .before .before .before .pre .room) }
 
-get-requires : tie.Need-get-requires Inv-loop μ-loop
-get-requires c κs = omega (arith, c .before .before .before .before .pre .source)
+same-length : tie.Need-same-length
+same-length c = search needs
 
-add-put : tie.Need-add-put Inv-loop μ-loop
-add-put c = omega (arith, length-words (c .before .before .before .before .before .before .args .dst .now), c .before .before .before .before .before .before .pre .room)
-
-put-requires : tie.Need-put-requires Inv-loop μ-loop
-put-requires c κs = record { inside = omega (arith, c .before .before .before .before .before .before .pre .room); small = c .before .get .ensures .small }
-
-add-i : tie.Need-add-i Inv-loop μ-loop
-add-i c = omega (arith, length-words (c .before .before .before .before .before .before .before .before .before .args .src .now), c .before .before .before .before .before .before .before .before .before .pre .source)
-
-loop-less : tie.Need-loop-less Inv-loop μ-loop
-loop-less c = omega arith
-
-loop-again : tie.Need-loop-again Inv-loop μ-loop
-loop-again c = (
-  omega arith,
-  c .before .before .put .kept .0 ∙ c .before .before .before .before .before .before .loop .inv .1,
-  c .before .before .put .ensures .long ∙ c .before .before .before .before .before .before .loop .inv .2,
-  copied-more (words (c .before .before .before .before .before .before .before .before .before .args .dst .now)) (c .before .before .before .before .before .before .before .before .before .args .at) (drop (c .before .before .before .before .before .before .before .before .before .args .from) (words (c .before .before .before .before .before .before .before .before .before .args .src .now))) _ _ (c .before .before .before .before .before .before .loop .i) (c .before .before .before .before .get .result) Bad (c .before .before .before .before .before .before .loop .inv .3) (c .before .before .before .before .get .ensures .is ∙ sym (getD-drop (c .before .before .before .before .before .before .before .before .before .args .from) (words (c .before .before .before .before .before .before .before .before .before .args .src .now)) (c .before .before .before .before .before .before .loop .i) Bad))
-      (omega (arith, c .before .before .before .before .before .before .before .before .before .pre .room)) (simp length-drop (omega (arith, c .before .before .before .before .before .before .before .before .before .pre .source))) (c .before .before .put .ensures),
-)
-
-same-length : tie.Need-same-length Inv-loop μ-loop
-same-length c = c .before .loop .inv .1
-
-returns : tie.Need-returns Inv-loop μ-loop
-returns c =
-    let e : c .before .loop .i ≡ c .before .before .before .before .args .n = omega arith in
-    record { list = c .before .loop .inv .3 ∙ ap (copied (words (c .before .before .before .before .args .dst .now)) (c .before .before .before .before .args .at) (drop (c .before .before .before .before .args .from) (words (c .before .before .before .before .args .src .now)))) e; long = c .before .loop .inv .2 }
+returns : tie.Need-returns
+returns c = words-copied (c .before .before .before .before .before .before .args .dst .now) (c .before .before .before .before .before .before .args .src .now) _ (c .before .before .before .before .before .before .args .at) (c .before .before .before .before .before .before .args .from) (c .before .before .before .before .before .before .args .n) (c .before .before .before .before .before .before .pre .source) (c .before .before .before .before .before .before .pre .room) (c .before .before .copy-bytes .ensures)
 
 pub copy-spec : {M : Type 1} → statement M
 copy-spec =
     tie.close
     (tie.spec
-    Inv-loop
-    μ-loop
-    loop-holds
-    add-get
-    get-requires
-    add-put
-    put-requires
-    add-i
-    loop-less
-    loop-again
+    mul-copy-bytes
+    mul-copy-bytes-2
+    mul-copy-bytes-3
+    copy-bytes-requires
     same-length
     returns)

@@ -1,10 +1,10 @@
+use borrow.Author.Needs.{needs}
 use mathlib.Core.Path.{_≡_, refl, sym, ap, _∙_}
 use mathlib.Core.List.{map}
 use Prim.Native.Nat.{_-_, _≤_, _<_}
 use native.Mathlib.Omega.{arith}
 use lib.ListN.{length, getD, drop, length-drop}
 use lib.Seq.{getD-drop}
-use Rattle.mem_words.specs.declared.Word.{Word}
 use Rattle.mem_words.specs.declared.Word.the-variants.{Bad}
 use Rattle.mem_words.specs.Words.{words, length-words}
 use Rattle.mem_copies.specs.Runs.{run, copied, copied-none, copied-more, length-mapped, getD-map}
@@ -21,37 +21,32 @@ abbrev μ-loop : tie.MeasureT-loop
 loop-holds : tie.Need-loop-holds Inv-loop μ-loop
 loop-holds c = (omega arith, refl, refl, copied-none _ _ _)
 
-add-get : tie.Need-add-get Inv-loop μ-loop
-add-get c = omega (arith, length-words (c .before .before .before .before .before .args .src .now), c .before .before .before .before .before .pre .source)
+add-put-opened : tie.Need-add-put-opened Inv-loop μ-loop
+add-put-opened c = omega (arith, length-words (c .before .before .before .before .before .args .src .now), c .before .before .before .before .before .pre .source)
 
-get-requires : tie.Need-get-requires Inv-loop μ-loop
-get-requires c κs = omega (arith, c .before .before .before .before .before .pre .source)
+add-put-opened-2 : tie.Need-add-put-opened-2 Inv-loop μ-loop
+add-put-opened-2 c = omega (arith, length-words (c .before .before .before .before .before .before .args .dst .now), c .before .before .before .before .before .before .pre .room)
 
-opened-requires : tie.Need-opened-requires Inv-loop μ-loop
-opened-requires c κs = record { inside = c .before .before .before .before .before .before .pre .words; small = c .get .ensures .small }
-
-add-put : tie.Need-add-put Inv-loop μ-loop
-add-put c = omega (arith, length-words (c .before .before .before .before .before .before .before .before .args .dst .now), c .before .before .before .before .before .before .before .before .pre .room)
-
-put-requires : tie.Need-put-requires Inv-loop μ-loop
-put-requires c κs = record { inside = omega (arith, c .before .before .before .before .before .before .before .before .pre .room); small = c .before .opened .ensures .small }
+put-opened-requires : tie.Need-put-opened-requires Inv-loop μ-loop
+put-opened-requires c κs = record { source = omega (arith, c .before .before .before .before .before .before .pre .source); room = omega (arith, c .before .before .before .before .before .before .pre .room); words = c .before .before .before .before .before .before .pre .words }
 
 add-i : tie.Need-add-i Inv-loop μ-loop
-add-i c = omega (arith, length-words (c .before .before .before .before .before .before .before .before .before .before .before .args .src .now), c .before .before .before .before .before .before .before .before .before .before .before .pre .source)
+add-i c = omega (arith, length-words (c .before .before .before .before .before .before .before .before .before .args .src .now), c .before .before .before .before .before .before .before .before .before .pre .source)
 
 loop-less : tie.Need-loop-less Inv-loop μ-loop
 loop-less c = omega arith
 
 loop-again : tie.Need-loop-again Inv-loop μ-loop
 loop-again c =
-    let i = c .before .before .before .before .before .before .before .loop .i in
-    let h : i < length (drop (c .before .before .before .before .before .before .before .before .before .before .before .args .from) (words (c .before .before .before .before .before .before .before .before .before .before .before .args .src .now))) = simp length-drop (omega (arith, c .before .before .before .before .before .before .before .before .before .before .before .pre .source)) in (
+    let a = c .before .before .before .before .before .before .before .before .before .args in
+    let i = c .before .before .before .before .before .loop .i in
+    let f = openWord (run (a .v) (a .m) (words (a .vs .now))) in
+    let s = words (a .src .now) in
+    let h : i < length (drop (a .from) s) = simp length-drop (omega (arith, c .before .before .before .before .before .before .before .before .before .pre .source)) in (
       omega arith,
-      c .before .before .put .kept .0 ∙ c .before .before .before .before .before .before .before .loop .inv .1,
-      c .before .before .put .ensures .long ∙ c .before .before .before .before .before .before .before .loop .inv .2,
-      copied-more (words (c .before .before .before .before .before .before .before .before .before .before .before .args .dst .now)) (c .before .before .before .before .before .before .before .before .before .before .before .args .at) ((map (openWord (run (c .before .before .before .before .before .before .before .before .before .before .before .args .v) (c .before .before .before .before .before .before .before .before .before .before .before .args .m) (words (c .before .before .before .before .before .before .before .before .before .before .before .args .vs .now)))) (drop (c .before .before .before .before .before .before .before .before .before .before .before .args .from) (words (c .before .before .before .before .before .before .before .before .before .before .before .args .src .now))))) _ _ i (c .before .before .before .before .opened .result) Bad (c .before .before .before .before .before .before .before .loop .inv .3)
-          (c .before .before .before .before .opened .ensures .is ∙ ap ((openWord (run (c .before .before .before .before .before .before .before .before .before .before .before .args .v) (c .before .before .before .before .before .before .before .before .before .before .before .args .m) (words (c .before .before .before .before .before .before .before .before .before .before .before .args .vs .now))))) (c .before .before .before .before .before .get .ensures .is ∙ sym (getD-drop (c .before .before .before .before .before .before .before .before .before .before .before .args .from) (words (c .before .before .before .before .before .before .before .before .before .before .before .args .src .now)) i Bad)) ∙ sym (getD-map ((openWord (run (c .before .before .before .before .before .before .before .before .before .before .before .args .v) (c .before .before .before .before .before .before .before .before .before .before .before .args .m) (words (c .before .before .before .before .before .before .before .before .before .before .before .args .vs .now))))) (drop (c .before .before .before .before .before .before .before .before .before .before .before .args .from) (words (c .before .before .before .before .before .before .before .before .before .before .before .args .src .now))) i Bad Bad h))
-          (omega (arith, c .before .before .before .before .before .before .before .before .before .before .before .pre .room)) (omega (arith, length-mapped ((openWord (run (c .before .before .before .before .before .before .before .before .before .before .before .args .v) (c .before .before .before .before .before .before .before .before .before .before .before .args .m) (words (c .before .before .before .before .before .before .before .before .before .before .before .args .vs .now))))) (words (c .before .before .before .before .before .before .before .before .before .before .before .args .src .now)) (c .before .before .before .before .before .before .before .before .before .before .before .args .from) (c .before .before .before .before .before .before .before .before .before .before .before .args .n) (c .before .before .before .before .before .before .before .before .before .before .before .pre .source))) (c .before .before .put .ensures),
+      c .before .before .put-opened .kept .1 .1 .1 .1 .1 .0 ∙ c .before .before .before .before .before .loop .inv .1,
+      c .before .before .put-opened .ensures .long ∙ c .before .before .before .before .before .loop .inv .2,
+      copied-more (words (a .dst .now)) (a .at) (map f (drop (a .from) s)) _ _ i _ Bad (c .before .before .before .before .before .loop .inv .3) (ap f (sym (getD-drop (a .from) s i Bad)) ∙ sym (getD-map f (drop (a .from) s) i Bad Bad h)) (omega (arith, c .before .before .before .before .before .before .before .before .before .pre .room)) (omega (arith, length-mapped f s (a .from) (a .n) (c .before .before .before .before .before .before .before .before .before .pre .source))) (c .before .before .put-opened .ensures),
     )
 
 same-length : tie.Need-same-length Inv-loop μ-loop
@@ -59,8 +54,9 @@ same-length c = c .before .loop .inv .1
 
 returns : tie.Need-returns Inv-loop μ-loop
 returns c =
-    let e : c .before .loop .i ≡ c .before .before .before .before .before .args .n = omega arith in
-    record { list = c .before .loop .inv .3 ∙ ap (copied (words (c .before .before .before .before .before .args .dst .now)) (c .before .before .before .before .before .args .at) ((map (openWord (run (c .before .before .before .before .before .args .v) (c .before .before .before .before .before .args .m) (words (c .before .before .before .before .before .args .vs .now)))) (drop (c .before .before .before .before .before .args .from) (words (c .before .before .before .before .before .args .src .now)))))) e; long = c .before .loop .inv .2 }
+    let a = c .before .before .before .before .before .args in
+    let e : c .before .loop .i ≡ a .n = omega arith in
+    record { list = c .before .loop .inv .3 ∙ ap (copied (words (a .dst .now)) (a .at) (map (openWord (run (a .v) (a .m) (words (a .vs .now)))) (drop (a .from) (words (a .src .now))))) e; long = c .before .loop .inv .2 }
 
 pub copy-opened-spec : {M : Type 1} → statement M
 copy-opened-spec =
@@ -69,11 +65,9 @@ copy-opened-spec =
     Inv-loop
     μ-loop
     loop-holds
-    add-get
-    get-requires
-    opened-requires
-    add-put
-    put-requires
+    add-put-opened
+    add-put-opened-2
+    put-opened-requires
     add-i
     loop-less
     loop-again

@@ -39,25 +39,25 @@ save-requires : tie.Need-save-requires
 save-requires c κs = (record { inside = c .before .before .before .before .before .before .before .before .before .before .pre .ina; var = omega (arith, c .before .before .before .before .before .before .before .before .before .before .pre .ina, c .before .before .before .before .before .before .before .before .before .before .pre .up .size); cell = omega (arith, c .before .before .before .before .before .before .before .before .before .before .pre .inb, c .before .before .before .before .before .before .before .before .before .before .pre .up .size); roomX = omega (arith, c .before .before .before .before .before .before .before .before .before .before .pre .roomX); roomC = omega (arith, c .before .before .before .before .before .before .before .before .before .before .pre .roomC) })
 
 same-length : tie.Need-same-length
-same-length c = search needs
+same-length c = c .before .before .before .before .before .before .before .save .kept .0
 
 same-length-2 : tie.Need-same-length-2
-same-length-2 c = search needs
+same-length-2 c = c .before .before .before .before .before .before .before .save .kept .1 .0
 
 same-length-3 : tie.Need-same-length-3
-same-length-3 c = search needs
+same-length-3 c = c .before .before .before .before .before .before .before .save .kept .1 .1 .0
 
 returns : tie.Need-returns
 returns c = let k1 : CanSave (triples (c .before .before .before .before .before .before .before .before .before .before .before .before .before .before .before .before .before .before .args .cells .now)) (shorts (c .before .before .before .before .before .before .before .before .before .before .before .before .before .before .before .before .before .before .args .vars .now)) (triples (c .before .before .before .before .before .before .before .before .before .before .before .before .before .before .before .before .before .before .args .olds .now)) (c .before .before .before .before .before .before .before .before .before .before .before .before .before .before .before .before .before .before .args .n) (c .before .before .before .before .before .before .before .before .before .before .before .before .before .before .before .before .before .before .args .a) (1 + c .before .before .before .before .before .before .before .before .before .before .before .before .before .triple-get .result / 4 % 64 * 4 + c .before .before .before .before .before .before .before .before .before .before .before .before .before .before .before .before .before .before .args .b * 256) = (record { inside = c .before .before .before .before .before .before .before .before .before .before .before .before .before .before .before .before .before .before .pre .ina; var = omega (arith, c .before .before .before .before .before .before .before .before .before .before .before .before .before .before .before .before .before .before .pre .ina, c .before .before .before .before .before .before .before .before .before .before .before .before .before .before .before .before .before .before .pre .up .size); cell = omega (arith, c .before .before .before .before .before .before .before .before .before .before .before .before .before .before .before .before .before .before .pre .inb, c .before .before .before .before .before .before .before .before .before .before .before .before .before .before .before .before .before .before .pre .up .size); roomX = omega (arith, c .before .before .before .before .before .before .before .before .before .before .before .before .before .before .before .before .before .before .pre .roomX); roomC = omega (arith, c .before .before .before .before .before .before .before .before .before .before .before .before .before .before .before .before .before .before .pre .roomC) }) in (joined-link (triples (c .before .before .before .before .before .before .before .before .before .before .before .before .before .before .before .before .before .before .args .cells .now)) (shorts (c .before .before .before .before .before .before .before .before .before .before .before .before .before .before .before .before .before .before .args .vars .now)) (triples (c .before .before .before .before .before .before .before .before .before .before .before .before .before .before .before .before .before .before .args .olds .now)) _ _ _ (c .before .before .before .before .before .before .before .before .before .before .before .before .before .before .before .before .before .before .args .n) (c .before .before .before .before .before .before .before .before .before .before .before .before .before .before .before .before .before .before .args .a) (c .before .before .before .before .before .before .before .before .before .before .before .before .before .before .before .before .before .before .args .b) (1 + c .before .before .before .before .before .before .before .before .before .before .before .before .before .triple-get .result / 4 % 64 * 4 + c .before .before .before .before .before .before .before .before .before .before .before .before .before .before .before .before .before .before .args .b * 256) (c .before .before .before .before .before .before .before .before .before .before .before .before .before .before .before .before .before .before .pre) k1 (c .before .before .before .before .before .before .before .save .ensures) (omega arith) (omega arith) (omega (arith, c .before .before .before .before .before .before .before .before .before .before .before .before .before .triple-get .ensures .is)))
 
 same-length-4 : tie.Need-same-length-4
-same-length-4 c = search needs
+same-length-4 c = c .before .before .before .before .before .before .before .before .save .kept .0
 
 same-length-5 : tie.Need-same-length-5
-same-length-5 c = search needs
+same-length-5 c = c .before .before .before .before .before .before .before .before .save .kept .1 .0
 
 same-length-6 : tie.Need-same-length-6
-same-length-6 c = search needs
+same-length-6 c = c .before .before .before .before .before .before .before .before .save .kept .1 .1 .0
 
 returns-2 : tie.Need-returns-2
 returns-2 c = let k1 : CanSave (triples (c .before .before .before .before .before .before .before .before .before .before .before .before .before .before .before .before .before .before .before .args .cells .now)) (shorts (c .before .before .before .before .before .before .before .before .before .before .before .before .before .before .before .before .before .before .before .args .vars .now)) (triples (c .before .before .before .before .before .before .before .before .before .before .before .before .before .before .before .before .before .before .before .args .olds .now)) (c .before .before .before .before .before .before .before .before .before .before .before .before .before .before .before .before .before .before .before .args .n) (c .before .before .before .before .before .before .before .before .before .before .before .before .before .before .before .before .before .before .before .args .a) (1 + c .before .before .before .before .before .before .before .before .before .before .before .before .before .before .triple-get .result / 4 % 64 * 4 + c .before .before .before .before .before .before .before .before .before .before .before .before .before .before .before .before .before .before .before .args .b * 256) = (record { inside = c .before .before .before .before .before .before .before .before .before .before .before .before .before .before .before .before .before .before .before .pre .ina; var = omega (arith, c .before .before .before .before .before .before .before .before .before .before .before .before .before .before .before .before .before .before .before .pre .ina, c .before .before .before .before .before .before .before .before .before .before .before .before .before .before .before .before .before .before .before .pre .up .size); cell = omega (arith, c .before .before .before .before .before .before .before .before .before .before .before .before .before .before .before .before .before .before .before .pre .inb, c .before .before .before .before .before .before .before .before .before .before .before .before .before .before .before .before .before .before .before .pre .up .size); roomX = omega (arith, c .before .before .before .before .before .before .before .before .before .before .before .before .before .before .before .before .before .before .before .pre .roomX); roomC = omega (arith, c .before .before .before .before .before .before .before .before .before .before .before .before .before .before .before .before .before .before .before .pre .roomC) }) in (joined-link (triples (c .before .before .before .before .before .before .before .before .before .before .before .before .before .before .before .before .before .before .before .args .cells .now)) (shorts (c .before .before .before .before .before .before .before .before .before .before .before .before .before .before .before .before .before .before .before .args .vars .now)) (triples (c .before .before .before .before .before .before .before .before .before .before .before .before .before .before .before .before .before .before .before .args .olds .now)) _ _ _ (c .before .before .before .before .before .before .before .before .before .before .before .before .before .before .before .before .before .before .before .args .n) (c .before .before .before .before .before .before .before .before .before .before .before .before .before .before .before .before .before .before .before .args .a) (c .before .before .before .before .before .before .before .before .before .before .before .before .before .before .before .before .before .before .before .args .b) (1 + c .before .before .before .before .before .before .before .before .before .before .before .before .before .before .triple-get .result / 4 % 64 * 4 + c .before .before .before .before .before .before .before .before .before .before .before .before .before .before .before .before .before .before .before .args .b * 256) (c .before .before .before .before .before .before .before .before .before .before .before .before .before .before .before .before .before .before .before .pre) k1 (c .before .before .before .before .before .before .before .before .save .ensures) (omega arith) (omega arith) (omega (arith, c .before .before .before .before .before .before .before .before .before .before .before .before .before .before .triple-get .ensures .is)))
@@ -69,13 +69,13 @@ save-requires-2 : tie.Need-save-requires-2
 save-requires-2 c κs = record { inside = omega (arith, c .before .before .before .before .before .before .before .before .before .before .before .save .ensures .cells .long, c .before .before .before .before .before .before .before .before .before .before .before .before .before .before .before .before .before .before .before .before .before .before .pre .inb); var = omega (arith, c .before .before .before .before .before .before .before .before .before .before .before .before .before .before .before .before .before .before .before .before .before .before .pre .inb, c .before .before .before .before .before .before .before .before .before .before .before .before .before .before .before .before .before .before .before .before .before .before .pre .up .size); cell = omega arith; roomX = omega (arith, c .before .before .before .before .before .before .before .before .before .before .before .before .before .before .before .before .before .before .before .before .before .before .pre .roomX, c .before .before .before .before .before .before .before .before .before .before .before .save .ensures .vars .long); roomC = omega (arith, c .before .before .before .before .before .before .before .before .before .before .before .before .before .before .before .before .before .before .before .before .before .before .pre .roomC, c .before .before .before .before .before .before .before .before .before .before .before .save .ensures .olds .long) }
 
 same-length-7 : tie.Need-same-length-7
-same-length-7 c = search needs
+same-length-7 c = c .before .before .before .before .before .before .save2 .kept .0 ∙ c .before .before .before .before .before .before .before .before .before .before .before .before .before .before .before .before .before .before .save .kept .0
 
 same-length-8 : tie.Need-same-length-8
-same-length-8 c = search needs
+same-length-8 c = c .before .before .before .before .before .before .save2 .kept .1 .0 ∙ c .before .before .before .before .before .before .before .before .before .before .before .before .before .before .before .before .before .before .save .kept .1 .0
 
 same-length-9 : tie.Need-same-length-9
-same-length-9 c = search needs
+same-length-9 c = c .before .before .before .before .before .before .save2 .kept .1 .1 .0 ∙ c .before .before .before .before .before .before .before .before .before .before .before .before .before .before .before .before .before .before .save .kept .1 .1 .0
 
 returns-3 : tie.Need-returns-3
 returns-3 c =

@@ -1,4 +1,4 @@
-use mathlib.Core.Path.{sym, subst}
+use mathlib.Core.Path.{sym, subst, _∙_, refl}
 use Prim.Native.Nat.{ℕ, _-_}
 use native.Mathlib.Omega.{arith}
 use lib.ListN.{length}
@@ -18,7 +18,7 @@ find-requires-2 : tie.Need-find-requires-2
 find-requires-2 c κs = record { up = c .before .before .before .before .before .before .pre .up; inside = c .before .before .before .before .before .before .pre .iny }
 
 same-length : tie.Need-same-length
-same-length c = search needs
+same-length c = refl
 
 returns : tie.Need-returns
 returns c = joined-same (triples (c .before .before .before .before .before .before .before .before .args .cells .now)) (shorts (c .before .before .before .before .before .before .before .before .args .vars .now)) (triples (c .before .before .before .before .before .before .before .before .args .olds .now)) (c .before .before .before .before .before .before .before .before .args .n) (c .before .before .before .before .before .before .before .before .args .x) (c .before .before .before .before .before .before .before .before .args .y) (c .before .before .before .find .result) (c .before .before .before .before .before .before .before .before .pre) (c .before .before .before .find .ensures) (subst (λ (r : ℕ). Found (triples (c .before .before .before .before .before .before .before .before .args .cells .now)) (c .before .before .before .before .before .before .before .before .args .y) r) (sym (c .if1 .taken)) (c .before .find2 .ensures))
@@ -30,13 +30,13 @@ hang-requires : tie.Need-hang-requires
 hang-requires c κs = record { up = c .before .before .before .before .before .before .before .before .before .before .before .before .before .before .pre .up; ina = c .before .before .before .before .before .before .before .before .before .find .ensures .inside; inb = c .before .before .before .before .before .before .before .find2 .ensures .inside; roota = c .before .before .before .before .before .before .before .before .before .find .ensures .root; rootb = c .before .before .before .before .before .before .before .find2 .ensures .root; less = subst (λ (r : Bool). Order (triples (c .before .before .before .before .before .before .before .before .before .before .before .before .before .before .args .cells .now)) (c .before .before .before .before .before .before .before .before .before .find .result) (c .before .before .before .before .before .before .before .find2 .result) r) (c .before .before .before .if2 .taken) (c .before .before .before .before .below .ensures); roomX = c .before .before .before .before .before .before .before .before .before .before .before .before .before .before .pre .roomX; roomC = c .before .before .before .before .before .before .before .before .before .before .before .before .before .before .pre .roomC }
 
 same-length-2 : tie.Need-same-length-2
-same-length-2 c = search needs
+same-length-2 c = c .before .before .before .before .before .before .hang .kept .0
 
 same-length-3 : tie.Need-same-length-3
-same-length-3 c = search needs
+same-length-3 c = c .before .before .before .before .before .before .hang .kept .1 .0
 
 same-length-4 : tie.Need-same-length-4
-same-length-4 c = search needs
+same-length-4 c = c .before .before .before .before .before .before .hang .kept .1 .1 .0
 
 returns-2 : tie.Need-returns-2
 returns-2 c = joined-reps (triples (c .before .before .before .before .before .before .before .before .before .before .before .before .before .before .before .before .before .before .before .before .before .args .cells .now)) (shorts (c .before .before .before .before .before .before .before .before .before .before .before .before .before .before .before .before .before .before .before .before .before .args .vars .now)) (triples (c .before .before .before .before .before .before .before .before .before .before .before .before .before .before .before .before .before .before .before .before .before .args .olds .now)) (c .before .before .before .before .before .before .before .before .before .before .before .before .before .before .before .before .before .before .before .before .before .args .n) (c .before .before .before .before .before .before .before .before .before .before .before .before .before .before .before .before .before .before .before .before .before .args .x) (c .before .before .before .before .before .before .before .before .before .before .before .before .before .before .before .before .before .before .before .before .before .args .y) (c .before .before .before .before .before .before .before .before .before .before .before .before .before .before .before .before .find .result) (c .before .before .before .before .before .before .before .before .before .before .before .before .before .before .find2 .result) _ _ _ (c .before .before .before .before .before .before .hang .result) (c .before .before .before .before .before .before .before .before .before .before .before .before .before .before .before .before .before .before .before .before .before .pre) (c .before .before .before .before .before .before .before .before .before .before .before .before .before .before .before .before .find .ensures) (c .before .before .before .before .before .before .before .before .before .before .before .before .before .before .find2 .ensures) (c .before .before .before .before .before .before .hang .ensures)
@@ -45,13 +45,13 @@ hang-requires-2 : tie.Need-hang-requires-2
 hang-requires-2 c κs = record { up = c .before .before .before .before .before .before .before .before .before .before .before .before .before .before .pre .up; ina = c .before .before .before .before .before .before .before .find2 .ensures .inside; inb = c .before .before .before .before .before .before .before .before .before .find .ensures .inside; roota = c .before .before .before .before .before .before .before .find2 .ensures .root; rootb = c .before .before .before .before .before .before .before .before .before .find .ensures .root; less = subst (λ (r : Bool). Order (triples (c .before .before .before .before .before .before .before .before .before .before .before .before .before .before .args .cells .now)) (c .before .before .before .before .before .before .before .before .before .find .result) (c .before .before .before .before .before .before .before .find2 .result) r) (c .before .before .before .if2 .left) (c .before .before .before .before .below .ensures); roomX = c .before .before .before .before .before .before .before .before .before .before .before .before .before .before .pre .roomX; roomC = c .before .before .before .before .before .before .before .before .before .before .before .before .before .before .pre .roomC }
 
 same-length-5 : tie.Need-same-length-5
-same-length-5 c = search needs
+same-length-5 c = c .before .before .before .before .before .before .hang2 .kept .0
 
 same-length-6 : tie.Need-same-length-6
-same-length-6 c = search needs
+same-length-6 c = c .before .before .before .before .before .before .hang2 .kept .1 .0
 
 same-length-7 : tie.Need-same-length-7
-same-length-7 c = search needs
+same-length-7 c = c .before .before .before .before .before .before .hang2 .kept .1 .1 .0
 
 returns-3 : tie.Need-returns-3
 returns-3 c = joined-reps (triples (c .before .before .before .before .before .before .before .before .before .before .before .before .before .before .before .before .before .before .before .before .before .args .cells .now)) (shorts (c .before .before .before .before .before .before .before .before .before .before .before .before .before .before .before .before .before .before .before .before .before .args .vars .now)) (triples (c .before .before .before .before .before .before .before .before .before .before .before .before .before .before .before .before .before .before .before .before .before .args .olds .now)) (c .before .before .before .before .before .before .before .before .before .before .before .before .before .before .before .before .before .before .before .before .before .args .n) (c .before .before .before .before .before .before .before .before .before .before .before .before .before .before .before .before .before .before .before .before .before .args .x) (c .before .before .before .before .before .before .before .before .before .before .before .before .before .before .before .before .before .before .before .before .before .args .y) (c .before .before .before .before .before .before .before .before .before .before .before .before .before .before .before .before .find .result) (c .before .before .before .before .before .before .before .before .before .before .before .before .before .before .find2 .result) _ _ _ (c .before .before .before .before .before .before .hang2 .result) (c .before .before .before .before .before .before .before .before .before .before .before .before .before .before .before .before .before .before .before .before .before .pre) (c .before .before .before .before .before .before .before .before .before .before .before .before .before .before .before .before .find .ensures) (c .before .before .before .before .before .before .before .before .before .before .before .before .before .before .find2 .ensures) (joined-sym (c .before .before .before .before .before .before .hang2 .ensures))
