@@ -1,4 +1,4 @@
--- The answers of `read_inputs::read` as numbers, and its five counts in a table. Assumes nothing.
+-- The answers of `read_both::read` as numbers, and its five counts in a table. Assumes nothing.
 use mathlib.Core.Path.{_≡_}
 use mathlib.Core.Logic.{_⊎_}
 use mathlib.Core.Bool.{Bool, true, false}

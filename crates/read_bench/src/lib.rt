@@ -36,7 +36,7 @@ fn counted(counts: &mut [u8], a: usize, b: usize, c: usize, d: usize, e: usize) 
     true
 }
 
-// As `read_inputs::read`. Hands back 0 and leaves the five counts in `counts`; or the refusal's number; or 20 where `counts` has no
+// As `read_both::read`. Hands back 0 and leaves the five counts in `counts`; or the refusal's number; or 20 where `counts` has no
 // room for five numbers of four bytes, 21 where a table is too short, 22 where a count is of more than four bytes.
 #[no_mangle]
 pub extern "C" fn texts_read(
@@ -60,7 +60,7 @@ pub extern "C" fn texts_read(
     if mem_longs::long_count(counts) < 5 {
         return 20;
     }
-    let r = read_inputs::read(
+    let r = read_both::read(
         program,
         query,
         cells,

@@ -132,7 +132,7 @@ fn answer(program: &[u8], query: &[u8]) {
     let mut stack = stack_space();
     let mut binds = links_space();
     let mut saves = saves_space();
-    let r = read_inputs::read(
+    let r = read_both::read(
         program,
         query,
         &mut cells,

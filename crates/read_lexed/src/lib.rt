@@ -2,13 +2,9 @@
 // is 0 for a mark.
 ghost use mathlib.Core.Path.{_≡_};
 ghost use Rattle.mem_numbers.specs.Numbers.{shorts, triples};
-ghost use Rattle.read_nodes.specs.Trie.{Trie};
 ghost use Rattle.read_lexed.specs.Codes.{kindNo};
 ghost use Rattle.read_lexed.specs.Encoded.{CanCode, Encoded};
-ghost use Rattle.read_lexed.specs.Table.{Tokenised};
-use read_tokens::Cursor;
 use read_tokens::Kind;
-use read_tokens::Next;
 use read_trie::Child;
 
 // How many codes and nodes there are; or some bytes are no token; or a table is too short.
@@ -41,7 +37,7 @@ pub fn kind_no(kind: Kind) -> usize
 }
 
 // The code of the token of `len` bytes from `at` on, and the count of nodes.
-fn code(
+pub fn code(
     text: &[u8],
     kind: Kind,
     at: usize,
@@ -62,49 +58,4 @@ fn code(
         return Child::Full;
     };
     Child::At(no + i * 256, m)
-}
-
-// Codes all tokens of a text.
-pub fn tokenise(
-    text: &[u8],
-    codes: &mut [u8],
-    cells: &mut [u8],
-    heads: &mut [u8],
-    nexts: &mut [u8],
-    n: usize,
-) -> Lexed
-    requires { ⌜ Trie (triples (now cells)) (shorts (now heads)) (shorts (now nexts)) n ⌝ }
-    ensures { λ r. ⌜ Tokenised (now (text .entry)) (triples (now (codes .entry))) (triples (now (cells .entry))) (shorts (now (heads .entry))) (shorts (now (nexts .entry))) n (triples (now (codes .exit))) (triples (now (cells .exit))) (shorts (now (heads .exit))) (shorts (now (nexts .exit))) r ⌝ }
-{
-    let mut at: usize = 0;
-    let mut k: usize = 0;
-    let mut m = n;
-    loop {
-        let next = Cursor(at).next(text);
-        match next {
-            Next::End => {
-                return Lexed::All(k, m);
-            }
-            Next::Bad => {
-                return Lexed::Bad;
-            }
-            Next::Token {
-                kind,
-                at: from,
-                len,
-                rest,
-            } => {
-                if mem_numbers::triple_count(codes) <= k {
-                    return Lexed::Full;
-                }
-                let Child::At(c, l) = code(text, kind, from, len, cells, heads, nexts, m) else {
-                    return Lexed::Full;
-                };
-                mem_numbers::triple_put(codes, k, c);
-                k += 1;
-                m = l;
-                at = rest.0;
-            }
-        }
-    }
 }

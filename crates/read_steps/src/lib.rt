@@ -1,8 +1,6 @@
 // Steps texts: a line for each step, of three decimal numbers below 2^32.
 ghost use mathlib.Core.Path.{_≡_};
-ghost use Rattle.akl.specs.StepsText.{read-steps};
 ghost use Rattle.read_steps.specs.Numbers.{CanAdd, capped, Numbered};
-ghost use Rattle.read_steps.specs.Lines.{LineRead, checked, counted};
 use refusals::Refusal;
 use read_tokens::Cursor;
 
@@ -53,7 +51,7 @@ fn with_digit(n: u64, b: u8) -> u64
 }
 
 // The decimal number from `at` on, which the byte `follows` must follow.
-fn read_number(s: &[u8], at: Cursor, follows: u8) -> Number
+pub fn read_number(s: &[u8], at: Cursor, follows: u8) -> Number
     ensures { λ r. ⌜ Numbered (now (s .entry)) (at .0) follows r ⌝ }
 {
     let from = at.0;
@@ -80,49 +78,5 @@ fn read_number(s: &[u8], at: Cursor, follows: u8) -> Number
             }
             return Number::At(n, Cursor(i + 1));
         }
-    }
-}
-
-// The step of the line that begins at `at`.
-pub fn read_line(s: &[u8], at: Cursor) -> Line
-    ensures { λ r. ⌜ LineRead (now (s .entry)) (at .0) r ⌝ }
-{
-    let Number::At(rule, after_rule) = read_number(s, at, b' ') else {
-        return Line::Refused(Refusal::NotALine);
-    };
-    let Number::At(place, after_place) = read_number(s, after_rule, b' ') else {
-        return Line::Refused(Refusal::NotALine);
-    };
-    let Number::At(argument, rest) = read_number(s, after_place, b'\n') else {
-        return Line::Refused(Refusal::NotALine);
-    };
-    Line::At(
-        Step {
-            rule,
-            place: Place(place),
-            argument,
-        },
-        rest,
-    )
-}
-
-// Whether a whole text is as described, and how many steps it has.
-pub fn check(s: &[u8]) -> Checked
-    ensures { λ r. ⌜ checked r ≡ counted (read-steps (now (s .entry))) ⌝ }
-{
-    if 16384 < s.len() {
-        return Checked::Refused(Refusal::TooLong);
-    }
-    let mut at: usize = 0;
-    let mut n: usize = 0;
-    loop {
-        if s.len() <= at {
-            return Checked::Steps(n);
-        }
-        let Line::At(_, rest) = read_line(s, Cursor(at)) else {
-            return Checked::Refused(Refusal::NotALine);
-        };
-        n += 1;
-        at = rest.0;
     }
 }

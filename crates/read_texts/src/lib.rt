@@ -33,7 +33,7 @@ pub fn query_text(
     if 4096 < text.len() {
         return Readable::Long;
     }
-    let l = read_lexed::tokenise(text, codes, cells, heads, nexts, n);
+    let l = read_tokenise::tokenise(text, codes, cells, heads, nexts, n);
     match l {
         Lexed::All(k, m) => {
             let e = 3 * k;
@@ -68,7 +68,7 @@ pub fn program_text(
     if 16384 < text.len() {
         return Readable::Long;
     }
-    let l = read_lexed::tokenise(text, codes, cells, heads, nexts, n);
+    let l = read_tokenise::tokenise(text, codes, cells, heads, nexts, n);
     match l {
         Lexed::All(k, m) => {
             let e = 3 * k;

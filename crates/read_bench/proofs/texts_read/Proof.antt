@@ -1,4 +1,4 @@
--- `read_bench::texts_read` meets its contract: the answer of `read_inputs::read` as a number. Assumes nothing.
+-- `read_bench::texts_read` meets its contract: the answer of `read_both::read` as a number. Assumes nothing.
 use native.Mathlib.Omega.{arith}
 use Rattle.read_bench.proofs.Saying.{no-room, counted-all, too-large, is-refused, is-short}
 use borrow.Author.Needs.{needs}

@@ -17,7 +17,7 @@ use Rattle.read_texts.proofs.program_text.Tie as tie
 use Rattle.read_texts.proofs.program_text.Reads as reads
 use Rattle.read_texts.proofs.program_text.Lts as lts
 use Rattle.read_grammar.proofs.program_is.Reads as program-is-reads
-use Rattle.read_lexed.proofs.tokenise.Reads as tokenise-reads
+use Rattle.read_tokenise.proofs.tokenise.Reads as tokenise-reads
 
 returns : tie.Need-returns
 returns c = text-long program-bytes parse-program _ (omega arith)

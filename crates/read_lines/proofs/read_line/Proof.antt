@@ -1,8 +1,8 @@
--- `read_steps::read_line` meets its contract: three numbers, each where the one before ends. Assumes nothing.
+-- `read_lines::read_line` meets its contract: three numbers, each where the one before ends. Assumes nothing.
 use Rattle.read_steps.specs.Lines.{refused-rule, refused-place, refused-argument, line-at}
 use borrow.Author.Needs.{needs}
-use Rattle.read_steps.proofs.read_line.Statement.{statement}
-use Rattle.read_steps.proofs.read_line.Tie as tie
+use Rattle.read_lines.proofs.read_line.Statement.{statement}
+use Rattle.read_lines.proofs.read_line.Tie as tie
 
 read-number-requires : tie.Need-read-number-requires
 read-number-requires c κs = search needs

@@ -6,12 +6,12 @@ use lib.ListN.{length}
 use Rattle.mem_numbers.specs.Numbers.{triples, shorts}
 use Rattle.mem_words.specs.Words.{words}
 use Rattle.read_pieces.specs.declared.Read.the-variants.{Done, Three, Odd, Full}
 use Rattle.read_definitions.proofs.Looping.{Going, going-start, going-can, going-full, going-odd, going-three, going-less, going-more, going-all, defines}
-use Rattle.read_definitions.proofs.bodies.Statement.{statement}
-use Rattle.read_definitions.proofs.bodies.Tie as tie
-use Rattle.read_definitions.proofs.bodies.Reads as reads
-use Rattle.read_definitions.proofs.bodies.Lts as lts
+use Rattle.read_bodies.proofs.bodies.Statement.{statement}
+use Rattle.read_bodies.proofs.bodies.Tie as tie
+use Rattle.read_bodies.proofs.bodies.Reads as reads
+use Rattle.read_bodies.proofs.bodies.Lts as lts
 use Rattle.read_definitions.proofs.definition.Reads as definition-reads
 use Rattle.mem_numbers.proofs.triple_count.Reads as triple-count-reads
 use Rattle.read_pieces.proofs.lower.Reads as lower-reads
 

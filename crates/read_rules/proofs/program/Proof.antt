@@ -1,14 +1,14 @@
 use mathlib.Core.Path.{_≡_}
 use native.Mathlib.Omega.{arith}
 use Rattle.read_wholes.proofs.Tables.{answered, codes-there, codes-length, binds-there, binds-length, lent}
 use Rattle.read_programs.proofs.Answering.{program-too-long, program-not, program-cramped, program-few-binds, program-few-order, program-can, program-through}
 use borrow.Author.Needs.{needs}
-use Rattle.read_programs.proofs.program.Statement.{statement}
-use Rattle.read_programs.proofs.program.Tie as tie
-use Rattle.read_programs.proofs.program.Reads as reads
-use Rattle.read_programs.proofs.program.Lts as lts
+use Rattle.read_rules.proofs.program.Statement.{statement}
+use Rattle.read_rules.proofs.program.Tie as tie
+use Rattle.read_rules.proofs.program.Reads as reads
+use Rattle.read_rules.proofs.program.Lts as lts
 use Rattle.mem_numbers.proofs.short_count.Reads as short-count-reads
 use Rattle.read_programs.proofs.checked.Reads as checked-reads
 use Rattle.read_texts.proofs.program_text.Reads as program-text-reads
 
 program-text-requires : tie.Need-program-text-requires

@@ -3,13 +3,13 @@ use native.Mathlib.Omega.{arith}
 use borrow.Author.Tests.{not-true, not-false}
 use Rattle.mem_numbers.specs.Numbers.{triples, shorts}
 use Rattle.mem_words.specs.Words.{words}
 use Rattle.read_inputs.proofs.Loading.{begun-not, begun-yes, long, program-refused, program-short, query-can, query-refused, query-short, query-read, heads-there, heads-length, heads-prefix, told-program, told-query}
 use borrow.Author.Needs.{needs}
-use Rattle.read_inputs.proofs.load.Statement.{statement}
-use Rattle.read_inputs.proofs.load.Tie as tie
-use Rattle.read_inputs.proofs.load.Reads as reads
-use Rattle.read_inputs.proofs.load.Lts as lts
-use Rattle.read_programs.proofs.program.Reads as program-reads
+use Rattle.read_both.proofs.load.Statement.{statement}
+use Rattle.read_both.proofs.load.Tie as tie
+use Rattle.read_both.proofs.load.Reads as reads
+use Rattle.read_both.proofs.load.Lts as lts
+use Rattle.read_rules.proofs.program.Reads as program-reads
 use Rattle.read_queries.proofs.query.Reads as query-reads
 use Rattle.read_lexicon.proofs.reserve.Reads as reserve-reads
 

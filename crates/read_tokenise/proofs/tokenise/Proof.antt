@@ -1,13 +1,13 @@
--- `read_lexed::tokenise` meets its contract: token by token, with the names of the codes before kept. Assumes nothing.
+-- `read_tokenise::tokenise` meets its contract: token by token, with the names of the codes before kept. Assumes nothing.
 use borrow.Author.Needs.{needs}
 use mathlib.Core.Path.{_≡_, refl, _∙_}
 use Prim.Native.Nat.{_-_}
 use native.Mathlib.Omega.{arith}
 use lib.ListN.{length}
 use Rattle.mem_numbers.specs.Numbers.{shorts, triples}
 use Rattle.read_lexed.specs.Table.{Sofar, sofar-none, sofar-end, sofar-bad, sofar-codes, sofar-names, sofar-more}
-use Rattle.read_lexed.proofs.tokenise.Statement.{statement}
-use Rattle.read_lexed.proofs.tokenise.Tie as tie
+use Rattle.read_tokenise.proofs.tokenise.Statement.{statement}
+use Rattle.read_tokenise.proofs.tokenise.Tie as tie
 
 abbrev Inv-loop : tie.InvT-loop
 Inv-loop text codes₀ cells₀ heads₀ nexts₀ n at₀ k₀ m₀ codes cells heads nexts at k m = Sofar text (triples codes₀) (triples cells₀) (shorts heads₀) (shorts nexts₀) n (triples codes) (triples cells) (shorts heads) (shorts nexts) at k m × (length codes ≡ length codes₀) × (length cells ≡ length cells₀) × (length heads ≡ length heads₀) × (length nexts ≡ length nexts₀)

@@ -1,11 +1,11 @@
--- `read_steps::check` meets its contract: line by line, with the turns of the definition that are left. Assumes nothing.
+-- `read_lines::check` meets its contract: line by line, with the turns of the definition that are left. Assumes nothing.
 use Prim.Native.Nat.{_-_}
 use borrow.Author.Needs.{needs}
 use native.Mathlib.Omega.{arith}
 use lib.ListN.{length}
 use Rattle.read_steps.specs.Lines.{Sofar, too-long, sofar-none, sofar-end, sofar-refused, sofar-more}
-use Rattle.read_steps.proofs.check.Statement.{statement}
-use Rattle.read_steps.proofs.check.Tie as tie
+use Rattle.read_lines.proofs.check.Statement.{statement}
+use Rattle.read_lines.proofs.check.Tie as tie
 
 abbrev Inv-loop : tie.InvT-loop
 Inv-loop s at₀ n₀ at n = Sofar s at n

@@ -1,12 +1,12 @@
 use mathlib.Core.Path.{_≡_, refl, sym, _∙_}
 use Rattle.read_inputs.proofs.Loading.{told, refused-still, short-still, zero-again}
 use borrow.Author.Needs.{needs}
-use Rattle.read_inputs.proofs.read.Statement.{statement}
-use Rattle.read_inputs.proofs.read.Tie as tie
-use Rattle.read_inputs.proofs.read.Reads as reads
-use Rattle.read_inputs.proofs.read.Lts as lts
+use Rattle.read_both.proofs.read.Statement.{statement}
+use Rattle.read_both.proofs.read.Tie as tie
+use Rattle.read_both.proofs.read.Reads as reads
+use Rattle.read_both.proofs.read.Lts as lts
 use Rattle.read_inputs.proofs.clear.Reads as clear-reads
-use Rattle.read_inputs.proofs.load.Reads as load-reads
+use Rattle.read_both.proofs.load.Reads as load-reads
 
 load-requires : tie.Need-load-requires
 load-requires c κs = search needs
