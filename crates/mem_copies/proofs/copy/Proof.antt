@@ -18,7 +18,7 @@ copy-bytes-requires : tie.Need-copy-bytes-requires
 copy-bytes-requires c κs = record { source = omega (arith, length-words (c .before .before .before .args .src .now), c .before .before .before .pre .source); room = omega (arith, length-words (c .before .before .before .args .dst .now), c .before .before .before .pre .room) }
 
 same-length : tie.Need-same-length
-same-length c = search needs
+same-length c = c .before .before .copy-bytes .kept .1 .1 .1 .0
 
 returns : tie.Need-returns
 returns c = words-copied (c .before .before .before .before .before .before .args .dst .now) (c .before .before .before .before .before .before .args .src .now) _ (c .before .before .before .before .before .before .args .at) (c .before .before .before .before .before .before .args .from) (c .before .before .before .before .before .before .args .n) (c .before .before .before .before .before .before .pre .source) (c .before .before .before .before .before .before .pre .room) (c .before .before .copy-bytes .ensures)

@@ -25,7 +25,7 @@ put-requires : tie.Need-put-requires
 put-requires c κs = record { inside = c .before .before .before .before .before .before .before .before .pre .room; small = c .before .opened .ensures .small }
 
 same-length : tie.Need-same-length
-same-length c = search needs
+same-length c = c .before .before .put .kept .0
 
 returns : tie.Need-returns
 returns c =
@@ -37,7 +37,7 @@ copy-requires : tie.Need-copy-requires
 copy-requires c κs = record { source = omega (arith, c .before .before .before .before .before .before .before .pre .source); room = omega (arith, c .before .before .before .before .before .before .before .pre .room) }
 
 same-length-2 : tie.Need-same-length-2
-same-length-2 c = search needs
+same-length-2 c = c .before .before .copy .kept .1 .1 .1 .0
 
 returns-2 : tie.Need-returns-2
 returns-2 c =

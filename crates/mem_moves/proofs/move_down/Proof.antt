@@ -18,7 +18,7 @@ bytes-down-requires : tie.Need-bytes-down-requires
 bytes-down-requires c κs = record { inside = omega (arith, length-words (c .before .before .args .b .now), c .before .before .pre .inside, c .before .before .pre .down); down = omega (arith, c .before .before .pre .down) }
 
 same-length : tie.Need-same-length
-same-length c = search needs
+same-length c = c .before .before .bytes-down .kept .0
 
 returns : tie.Need-returns
 returns c = words-copied (c .before .before .before .before .before .args .b .now) (c .before .before .before .before .before .args .b .now) _ (c .before .before .before .before .before .args .at) (c .before .before .before .before .before .args .from) (c .before .before .before .before .before .args .n) (omega (arith, c .before .before .before .before .before .pre .inside, c .before .before .before .before .before .pre .down)) (omega (arith, c .before .before .before .before .before .pre .inside, c .before .before .before .before .before .pre .down)) (c .before .before .bytes-down .ensures)

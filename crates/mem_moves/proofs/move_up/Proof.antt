@@ -18,7 +18,7 @@ bytes-up-requires : tie.Need-bytes-up-requires
 bytes-up-requires c κs = record { room = omega (arith, length-words (c .before .before .args .b .now), c .before .before .pre .room, c .before .before .pre .up); up = omega (arith, c .before .before .pre .up) }
 
 same-length : tie.Need-same-length
-same-length c = search needs
+same-length c = c .before .before .bytes-up .kept .0
 
 returns : tie.Need-returns
 returns c = words-copied (c .before .before .before .before .before .args .b .now) (c .before .before .before .before .before .args .b .now) _ (c .before .before .before .before .before .args .at) (c .before .before .before .before .before .args .from) (c .before .before .before .before .before .args .n) (omega (arith, c .before .before .before .before .before .pre .room, c .before .before .before .before .before .pre .up)) (omega (arith, c .before .before .before .before .before .pre .room, c .before .before .before .before .before .pre .up)) (c .before .before .bytes-up .ensures)

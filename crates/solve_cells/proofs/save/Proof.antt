@@ -18,13 +18,13 @@ triple-put-requires-2 : tie.Need-triple-put-requires-2
 triple-put-requires-2 c κs = search needs
 
 same-length : tie.Need-same-length
-same-length c = search needs
+same-length c = c .before .before .triple-put2 .kept .0
 
 same-length-2 : tie.Need-same-length-2
-same-length-2 c = search needs
+same-length-2 c = c .before .before .before .before .before .before .before .before .before .before .short-put .kept .0
 
 same-length-3 : tie.Need-same-length-3
-same-length-3 c = search needs
+same-length-3 c = c .before .before .before .before .before .before .triple-put .kept .0
 
 returns : tie.Need-returns
 returns c = record { cells = c .before .before .triple-put2 .ensures; vars = c .before .before .before .before .before .before .before .before .before .before .short-put .ensures; olds = rw (sym (c .before .before .before .before .before .before .before .before .before .before .before .before .triple-get .ensures .is)) (c .before .before .before .before .before .before .triple-put .ensures) }

@@ -1,4 +1,4 @@
-use mathlib.Core.Path.{ap, subst}
+use mathlib.Core.Path.{ap, subst, refl}
 use mathlib.Core.Bool.{Bool, true, false}
 use Prim.Native.Nat.{_+_, _-_, _*_, _/_, _%_}
 use native.Mathlib.Omega.{arith}
@@ -21,7 +21,7 @@ triple-get-requires : tie.Need-triple-get-requires
 triple-get-requires c κs = c .before .find .ensures .inside
 
 same-length : tie.Need-same-length
-same-length c = search needs
+same-length c = refl
 
 returns : tie.Need-returns
 returns c = held-same (words (c .before .before .before .before .before .before .before .before .before .before .before .args .t .now)) (longs (c .before .before .before .before .before .before .before .before .before .before .before .args .pos .now)) (triples (c .before .before .before .before .before .before .before .before .before .before .before .args .cells .now)) (c .before .before .before .before .before .before .before .before .before .before .before .pre .sound .up) (c .before .before .before .before .before .before .before .before .before .before .before .args .x) (c .before .before .before .before .find .result) (c .before .before .triple-get .result) (c .before .before .before .before .find .ensures) (c .before .before .triple-get .ensures .is) (omega arith) (shorts (c .before .before .before .before .before .before .before .before .before .before .before .args .vars .now)) (triples (c .before .before .before .before .before .before .before .before .before .before .before .args .olds .now)) (c .before .before .before .before .before .before .before .before .before .before .before .args .n) (c .before .before .before .before .before .before .before .before .before .before .before .args .k) (c .before .before .before .before .before .before .before .before .before .before .before .pre .sound) (c .if2 .taken)
@@ -36,13 +36,13 @@ meet-requires : tie.Need-meet-requires
 meet-requires c κs = record { sound = c .before .before .before .before .before .before .before .before .before .before .before .before .before .before .before .before .pre .sound; lowp = c .before .before .before .before .long-get .ensures .small; lowq = c .before .before .before .long-get2 .ensures .small }
 
 same-length-2 : tie.Need-same-length-2
-same-length-2 c = search needs
+same-length-2 c = c .before .before .before .before .before .before .meet .kept .1 .0
 
 same-length-3 : tie.Need-same-length-3
-same-length-3 c = search needs
+same-length-3 c = c .before .before .before .before .before .before .meet .kept .1 .1 .0
 
 same-length-4 : tie.Need-same-length-4
-same-length-4 c = search needs
+same-length-4 c = c .before .before .before .before .before .before .meet .kept .1 .1 .1 .0
 
 returns-2 : tie.Need-returns-2
 returns-2 c = held-met (words (c .before .before .before .before .before .before .before .before .before .before .before .before .before .before .before .before .before .before .before .before .before .before .before .args .t .now)) (longs (c .before .before .before .before .before .before .before .before .before .before .before .before .before .before .before .before .before .before .before .before .before .before .before .args .pos .now)) (triples (c .before .before .before .before .before .before .before .before .before .before .before .before .before .before .before .before .before .before .before .before .before .before .before .args .cells .now)) (c .before .before .before .before .before .before .before .before .before .before .before .before .before .before .before .before .before .before .before .before .before .before .before .pre .sound .up) (c .before .before .before .before .before .before .before .before .before .before .before .before .before .before .before .before .before .before .before .before .before .before .before .args .x) (c .before .before .before .before .before .before .before .before .before .before .before .before .before .before .before .before .find .result) (c .before .before .before .before .before .before .before .before .before .before .before .before .before .before .triple-get .result) (c .before .before .before .before .before .before .before .before .before .before .before .before .before .before .before .before .find .ensures) (c .before .before .before .before .before .before .before .before .before .before .before .before .before .before .triple-get .ensures .is) (omega arith) (shorts (c .before .before .before .before .before .before .before .before .before .before .before .before .before .before .before .before .before .before .before .before .before .before .before .args .vars .now)) (triples (c .before .before .before .before .before .before .before .before .before .before .before .before .before .before .before .before .before .before .before .before .before .before .before .args .olds .now)) (c .before .before .before .before .before .before .before .before .before .before .before .before .before .before .before .before .before .before .before .before .before .before .before .args .n) (c .before .before .before .before .before .before .before .before .before .before .before .before .before .before .before .before .before .before .before .before .before .before .before .args .k) (c .before .before .before .before .before .before .before .before .before .before .before .long-get .result) (c .before .before .before .before .before .before .before .before .before .before .long-get2 .result) _ _ _ (c .before .before .before .before .before .before .meet .result) (c .before .before .before .before .before .before .before .before .before .before .before .long-get .ensures .is) (c .before .before .before .before .before .before .before .before .before .before .long-get2 .ensures .is) (c .before .before .before .before .before .before .meet .ensures)
@@ -51,13 +51,13 @@ roomy-requires : tie.Need-roomy-requires
 roomy-requires c κs = (c .before .before .before .before .before .before .before .before .before .before .before .before .pre .sound .fitX, c .before .before .before .before .before .before .before .before .before .before .before .before .pre .sound .fitC)
 
 same-length-5 : tie.Need-same-length-5
-same-length-5 c = search needs
+same-length-5 c = refl
 
 same-length-6 : tie.Need-same-length-6
-same-length-6 c = search needs
+same-length-6 c = refl
 
 same-length-7 : tie.Need-same-length-7
-same-length-7 c = search needs
+same-length-7 c = refl
 
 returns-3 : tie.Need-returns-3
 returns-3 c = (step-none (words (c .before .before .before .before .before .before .before .before .before .before .before .before .before .before .args .t .now)) (triples (c .before .before .before .before .before .before .before .before .before .before .before .before .before .before .args .cells .now)) (shorts (c .before .before .before .before .before .before .before .before .before .before .before .before .before .before .args .vars .now)) (triples (c .before .before .before .before .before .before .before .before .before .before .before .before .before .before .args .olds .now)) (c .before .before .before .before .before .before .before .before .before .before .before .before .before .before .args .n) (c .before .before .before .before .before .before .before .before .before .before .before .before .before .before .pre .sound), subst (λ (r : Bool). Room (shorts (c .before .before .before .before .before .before .before .before .before .before .before .before .before .before .args .vars .now)) (triples (c .before .before .before .before .before .before .before .before .before .before .before .before .before .before .args .olds .now)) (c .before .before .before .before .before .before .before .before .before .before .before .before .before .before .args .n) r) (not-true (c .before .roomy .result) (c .if3 .taken)) (c .before .roomy .ensures))
@@ -81,13 +81,13 @@ save-requires : tie.Need-save-requires
 save-requires c κs = let h = (subst (λ (r : Bool). Room (shorts (c .before .before .before .before .before .before .before .before .before .before .before .before .before .before .before .before .before .args .vars .now)) (triples (c .before .before .before .before .before .before .before .before .before .before .before .before .before .before .before .before .before .args .olds .now)) (c .before .before .before .before .before .before .before .before .before .before .before .before .before .before .before .before .before .args .n) r) (not-false (c .before .before .before .before .roomy .result) (c .before .before .before .if3 .left)) (c .before .before .before .before .roomy .ensures)) in (record { inside = c .before .before .before .before .before .before .before .before .before .before .find .ensures .inside; var = omega (arith, c .before .before .before .before .before .before .before .before .before .before .find .ensures .inside, c .before .before .before .before .before .before .before .before .before .before .before .before .before .before .before .before .before .pre .sound .up .size); cell = omega (arith, c .before .before .before .before .before .before .before .before .before .before .before .before .before .before .before .before .before .pre .app, c .before .before .before .before .before .before .before .before .before .before .before .before .before .before .before .before .before .pre .size); roomX = omega (arith, h .0); roomC = omega (arith, h .1) })
 
 same-length-8 : tie.Need-same-length-8
-same-length-8 c = search needs
+same-length-8 c = c .before .before .before .before .before .before .save .kept .0
 
 same-length-9 : tie.Need-same-length-9
-same-length-9 c = search needs
+same-length-9 c = c .before .before .before .before .before .before .save .kept .1 .0
 
 same-length-10 : tie.Need-same-length-10
-same-length-10 c = search needs
+same-length-10 c = c .before .before .before .before .before .before .save .kept .1 .1 .0
 
 returns-4 : tie.Need-returns-4
 returns-4 c =
