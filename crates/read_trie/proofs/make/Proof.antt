@@ -1,3 +1,4 @@
+use mathlib.Core.Path.{_∙_, refl}
 -- `read_names::make` meets its contract: four entries are written. Assumes nothing.
 use native.Mathlib.Omega.{arith}
 use Rattle.read_trie.specs.Outcome.{made}
@@ -12,7 +13,7 @@ triple-count-requires : tie.Need-triple-count-requires
 triple-count-requires c κs = search needs
 
 same-length : tie.Need-same-length
-same-length c = search needs
+same-length c = refl
 
 returns-2 : tie.Need-returns-2
 returns-2 c = search needs
@@ -21,10 +22,10 @@ short-count-requires : tie.Need-short-count-requires
 short-count-requires c κs = search needs
 
 same-length-2 : tie.Need-same-length-2
-same-length-2 c = search needs
+same-length-2 c = refl
 
 same-length-3 : tie.Need-same-length-3
-same-length-3 c = search needs
+same-length-3 c = refl
 
 returns-3 : tie.Need-returns-3
 returns-3 c = search needs
@@ -33,13 +34,13 @@ short-count-requires-2 : tie.Need-short-count-requires-2
 short-count-requires-2 c κs = search needs
 
 same-length-4 : tie.Need-same-length-4
-same-length-4 c = search needs
+same-length-4 c = refl
 
 same-length-5 : tie.Need-same-length-5
-same-length-5 c = search needs
+same-length-5 c = refl
 
 same-length-6 : tie.Need-same-length-6
-same-length-6 c = search needs
+same-length-6 c = refl
 
 returns-4 : tie.Need-returns-4
 returns-4 c = search needs
@@ -63,13 +64,13 @@ add-t9 : tie.Need-add-t9
 add-t9 c = search needs
 
 same-length-7 : tie.Need-same-length-7
-same-length-7 c = search needs
+same-length-7 c = c .before .before .before .before .before .before .before .before .before .before .before .before .before .before .triple-put .kept .0
 
 same-length-8 : tie.Need-same-length-8
-same-length-8 c = search needs
+same-length-8 c = c .before .before .short-put3 .kept .0 ∙ c .before .before .before .before .before .before .short-put2 .kept .0
 
 same-length-9 : tie.Need-same-length-9
-same-length-9 c = search needs
+same-length-9 c = c .before .before .before .before .before .before .before .before .before .before .short-put .kept .0
 
 returns-5 : tie.Need-returns-5
 returns-5 c = made (c .before .before .before .before .before .before .before .before .before .before .before .before .before .before .before .before .before .before .before .before .before .before .before .before .before .before .before .before .before .before .before .pre) (record { cells = omega arith; heads = omega arith; nexts = omega arith; count = omega arith }) (c .before .before .before .before .before .before .before .before .before .before .before .before .before .before .before .before .short-get .ensures .is) (c .before .before .before .before .before .before .before .before .before .before .before .before .before .before .triple-put .ensures) (c .before .before .before .before .before .before .before .before .before .before .short-put .ensures) (c .before .before .before .before .before .before .short-put2 .ensures) (c .before .before .short-put3 .ensures)

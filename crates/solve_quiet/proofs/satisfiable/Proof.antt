@@ -1,3 +1,4 @@
+use mathlib.Core.Path.{_∙_, refl}
 use Prim.Native.Nat.{_-_}
 use lib.ListN.{length}
 use Rattle.mem_numbers.specs.Numbers.{triples, longs}
@@ -11,13 +12,13 @@ acyclic-requires : tie.Need-acyclic-requires
 acyclic-requires c κs = search needs
 
 same-length : tie.Need-same-length
-same-length c = search needs
+same-length c = c .before .before .before .before .before .before .acyclic .kept .1 .1 .1 .0
 
 same-length-2 : tie.Need-same-length-2
-same-length-2 c = search needs
+same-length-2 c = c .before .before .before .before .before .before .acyclic .kept .1 .1 .1 .1 .0
 
 same-length-3 : tie.Need-same-length-3
-same-length-3 c = search needs
+same-length-3 c = c .before .before .before .before .before .before .acyclic .kept .1 .1 .1 .1 .1 .0
 
 returns : tie.Need-returns
 returns c = solved (words (c .before .before .before .before .before .before .before .before .before .before .before .before .before .before .before .before .args .t .now)) (longs (c .before .before .before .before .before .before .before .before .before .before .before .before .before .before .before .before .args .pos .now)) (triples (c .before .before .before .before .before .before .before .before .before .before .before .before .before .before .before .before .args .cells .now)) (c .before .before .before .before .before .before .acyclic .result) (c .before .before .before .before .before .before .before .before .before .before .before .before .before .before .before .before .pre .fits .look .up) (c .before .before .before .before .before .before .acyclic .ensures)
