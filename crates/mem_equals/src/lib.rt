@@ -63,8 +63,8 @@ pub fn same(a: &[u8], i: usize, b: &[u8], j: usize, n: usize) -> bool
 {
     let mut k = front(a, 3 * i, b, 3 * j, 3 * n) / 3;
     while k < n {
-        let x = mem_words::get(a, i + k);
-        let y = mem_words::get(b, j + k);
+        let x = mem_get::get(a, i + k);
+        let y = mem_get::get(b, j + k);
         k += 1;
         if !same_word(x, y) {
             return false;

@@ -1,9 +1,8 @@
 // Words written one after another. A slot that may stay empty is the word `Bad`; `compact` drops the slots that did.
-ghost use mathlib.Core.Path.{_≡_};
 ghost use Prim.Native.Nat.{_≤_};
 ghost use lib.ListN.{length};
 ghost use Rattle.mem_words.specs.Words.{words, Small};
-ghost use Rattle.read_emits.specs.Contracts.{EmitTo, EndsTo, isBad, Compacted};
+ghost use Rattle.read_emits.specs.Contracts.{EmitTo, EndsTo};
 use mem_words::Word;
 
 // The position behind what was written, or there was no room.
@@ -18,7 +17,7 @@ pub fn emit(out: &mut [u8], k: usize, w: Word) -> bool
     ensures { λ r. ⌜ EmitTo (words (now (out .entry))) k w (words (now (out .exit))) r ⌝ }
 {
     if k < mem_words::count(out) {
-        mem_words::put(out, k, w);
+        mem_put::put(out, k, w);
         return true;
     }
     false
@@ -37,37 +36,4 @@ pub fn ends(out: &mut [u8], k: usize, c: usize) -> Emitted
         j += 1;
     }
     Emitted::To(k + c)
-}
-
-// Whether a word is an empty slot.
-fn empty(w: Word) -> bool
-    ensures { λ r. ⌜ r ≡ isBad w ⌝ }
-{
-    match w {
-        Word::End => false,
-        Word::Free(_) => false,
-        Word::Level(_) => false,
-        Word::Num(_) => false,
-        Word::Place(_) => false,
-        Word::Inner(_) => false,
-        Word::Bad => true,
-    }
-}
-
-// Drops the empty slots among the first `n` words, and hands back how many words are left.
-pub fn compact(out: &mut [u8], n: usize) -> usize
-    requires { ⌜ n ≤ length (words (now out)) ⌝ }
-    ensures { λ r. ⌜ Compacted (words (now (out .entry))) n (words (now (out .exit))) r ⌝ }
-{
-    let mut i = 0;
-    let mut r = 0;
-    while i < n {
-        let w = mem_words::get(out, i);
-        i += 1;
-        if !empty(w) {
-            mem_words::put(out, r, w);
-            r += 1;
-        }
-    }
-    r
 }

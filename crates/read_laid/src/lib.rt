@@ -108,7 +108,7 @@ fn tail(
     requires { ⌜ Tables (shorts (now binds)) (shorts (now order)) (words (now out)) k q × Inside (triples (now codes)) (shorts (now binds)) first count ⌝ }
     ensures { λ r. ⌜ Parted (count + 1) (ids (triples (now (codes .entry))) count first) (tail-lay (ids (triples (now (codes .entry))) count first)) (words (now (out .entry))) k (shorts (now (binds .entry))) (shorts (now (order .entry))) q query (words (now (out .exit))) (shorts (now (order .exit))) r ⌝ }
 {
-    let v = read_varwords::variables(codes, first, count, out, k, binds, order, q, query);
+    let v = read_varlists::variables(codes, first, count, out, k, binds, order, q, query);
     match v {
         Vars::Done {
             out: o,

@@ -79,7 +79,7 @@ pub fn statement(
                         }
                     }
                 }
-                mem_words::put(out, j, Word::Inner(Sort::Comp));
+                mem_put::put(out, j, Word::Inner(Sort::Comp));
                 i = a + 1;
                 j = o;
                 p = known;
@@ -207,7 +207,7 @@ fn bracket(
     let p = read_phrases::hidden_end(codes, at);
     match p {
         Phrase::To { rest, count } => {
-            if !read_pieces::slots(out, k) {
+            if !read_slots::slots(out, k) {
                 return Read::Full;
             }
             let g = read_operators::twice(read_scopes::bind(codes, at, count, binds, saves, level, level));
@@ -246,7 +246,7 @@ fn bracket(
                                 fault,
                             };
                         }
-                        read_pieces::fill_hide(out, k, count);
+                        read_fills::fill_hide(out, k, count);
                         if !read_emits::emit(out, o, Word::End) {
                             return Read::Full;
                         }
@@ -283,7 +283,7 @@ fn bracket(
                                 return Read::Full;
                             }
                             read_scopes::unbind(codes, at, count, binds, saves, level);
-                            read_pieces::fill_choice(out, k, op, count);
+                            read_fills::fill_choice(out, k, op, count);
                             let both = read_pieces::lower(fault, then);
                             let own = read_pieces::lower(g, both);
                             let r = others(
@@ -432,7 +432,7 @@ fn clause(
     let p = read_phrases::hidden_end(codes, at);
     match p {
         Phrase::To { rest, count } => {
-            if !read_pieces::open_clause(out, k, count) {
+            if !read_slots::open_clause(out, k, count) {
                 return Read::Full;
             }
             let g = read_operators::twice(read_scopes::bind(codes, at, count, binds, saves, level, level));

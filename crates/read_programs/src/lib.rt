@@ -60,7 +60,7 @@ pub fn checked(
                     if low < 8 {
                         return Programmed::Refused(refusals::of_tree(low));
                     }
-                    let n = read_emits::compact(out, k);
+                    let n = read_compact::compact(out, k);
                     Programmed::Read {
                         definitions: count,
                         words: n,

@@ -45,7 +45,7 @@ fn checked(
             if fault < 8 {
                 return Queried::Refused(refusals::of_tree(fault));
             }
-            let n = read_emits::compact(out, k);
+            let n = read_compact::compact(out, k);
             Queried::Read {
                 variables: known,
                 words: n,

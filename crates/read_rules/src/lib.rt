@@ -25,7 +25,7 @@ pub fn program(
     requires { ⌜ Lexicon (triples (now cells)) (shorts (now firsts)) (shorts (now nexts)) n ⌝ }
     ensures { λ r. ⌜ ProgramTo (now (text .entry)) (triples (now (codes .entry))) (triples (now (cells .entry))) (shorts (now (firsts .entry))) (shorts (now (nexts .entry))) (now (stack .entry)) n (triples (now (heads .entry))) (words (now (out .entry))) (shorts (now (binds .entry))) (shorts (now (saves .entry))) (shorts (now (order .entry))) (triples (now (cells .exit))) (shorts (now (firsts .exit))) (shorts (now (nexts .exit))) (triples (now (heads .exit))) (words (now (out .exit))) r ⌝ }
 {
-    let r = read_texts::program_text(text, codes, cells, firsts, nexts, stack, n);
+    let r = read_programtext::program_text(text, codes, cells, firsts, nexts, stack, n);
     match r {
         Readable::Yes { tokens, names } => {
             if mem_numbers::short_count(binds) < names {

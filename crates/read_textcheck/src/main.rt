@@ -77,7 +77,7 @@ fn program(text: &[u8]) -> Readable
     if !read_lexicon::reserve(&mut cells, &mut heads, &mut nexts) {
         return Readable::Short;
     }
-    read_texts::program_text(
+    read_programtext::program_text(
         text,
         &mut codes,
         &mut cells,

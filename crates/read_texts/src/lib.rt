@@ -1,8 +1,8 @@
 // Whether bytes are a program text or a query text: short enough, and of the grammar. The table of their tokens is left for
 // whoever reads on.
 ghost use Rattle.mem_numbers.specs.Numbers.{shorts, triples};
-ghost use Rattle.akl.specs.Limits.{program-bytes, query-bytes};
-ghost use Rattle.akl.specs.Parse.{parse-query, parse-program};
+ghost use Rattle.akl.specs.Limits.{query-bytes};
+ghost use Rattle.akl.specs.Parse.{parse-query};
 ghost use Rattle.read_lexicon.specs.Lexicon.{Lexicon};
 ghost use Rattle.read_texts.specs.Texts.{Answered};
 use read_grammar::Verdict;
@@ -37,7 +37,7 @@ pub fn query_text(
     match l {
         Lexed::All(k, m) => {
             let e = 3 * k;
-            let v = read_grammar::query_is(&codes[..e], stack);
+            let v = read_shapes::query_is(&codes[..e], stack);
             match v {
                 Verdict::Of => Readable::Yes {
                     tokens: k,
@@ -49,40 +49,5 @@ pub fn query_text(
         }
         Lexed::Bad => Readable::Odd, // some bytes are no token
         Lexed::Full => Readable::Short,
-    }
-}
-
-// Whether a text is a program.
-pub fn program_text(
-    text: &[u8],
-    codes: &mut [u8],
-    cells: &mut [u8],
-    heads: &mut [u8],
-    nexts: &mut [u8],
-    stack: &mut [u8],
-    n: usize,
-) -> Readable
-    requires { ⌜ Lexicon (triples (now cells)) (shorts (now heads)) (shorts (now nexts)) n ⌝ }
-    ensures { λ r. ⌜ Answered program-bytes parse-program (now (text .entry)) (triples (now (codes .entry))) (triples (now (cells .entry))) (shorts (now (heads .entry))) (shorts (now (nexts .entry))) n (now (stack .entry)) (triples (now (codes .exit))) (triples (now (cells .exit))) (shorts (now (heads .exit))) (shorts (now (nexts .exit))) r ⌝ }
-{
-    if 16384 < text.len() {
-        return Readable::Long;
-    }
-    let l = read_tokenise::tokenise(text, codes, cells, heads, nexts, n);
-    match l {
-        Lexed::All(k, m) => {
-            let e = 3 * k;
-            let v = read_grammar::program_is(&codes[..e], stack);
-            match v {
-                Verdict::Of => Readable::Yes {
-                    tokens: k,
-                    names: m,
-                },
-                Verdict::NotOf => Readable::Odd, // the tokens are no program
-                Verdict::NoRoom => Readable::Short, // too few bytes for the open brackets
-            }
-        }
-        Lexed::Bad => Readable::Odd,
-        Lexed::Full => Readable::Short, // too few codes or nodes
     }
 }

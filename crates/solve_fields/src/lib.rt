@@ -11,7 +11,7 @@ pub fn peek(t: &[u8], i: usize) -> Word
     ensures { λ r. ⌜ r ≡ getD (words (now (t .entry))) i Word.Bad ⌝ }
 {
     if i < mem_words::count(t) {
-        return mem_words::get(t, i);
+        return mem_get::get(t, i);
     }
     Word::Bad
 }

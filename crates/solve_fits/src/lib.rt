@@ -13,7 +13,7 @@ pub fn vars_below(t: &[u8], limit: usize) -> bool
     let n = mem_words::count(t);
     let mut i = 0;
     while i < n {
-        let v = solve_fields::var_of(mem_words::get(t, i));
+        let v = solve_fields::var_of(mem_get::get(t, i));
         i += 1;
         if limit <= v {
             return false;

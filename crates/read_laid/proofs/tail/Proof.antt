@@ -12,7 +12,7 @@ use Rattle.read_laid.proofs.tail.Tie as tie
 use Rattle.read_laid.proofs.tail.Reads as reads
 use Rattle.read_laid.proofs.tail.Lts as lts
 use Rattle.read_emits.proofs.emit.Reads as emit-reads
-use Rattle.read_varwords.proofs.variables.Reads as variables-reads
+use Rattle.read_varlists.proofs.variables.Reads as variables-reads
 
 variables-requires : tie.Need-variables-requires
 variables-requires c κs = can-vars (c .before .before .before .before .before .before .pre .0) (c .before .before .before .before .before .before .pre .1)

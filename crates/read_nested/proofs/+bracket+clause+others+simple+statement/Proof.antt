@@ -57,17 +57,17 @@ use Rattle.read_emits.proofs.ends.Reads as ends-reads
 use Rattle.read_phrases.proofs.hidden_end.Reads as hidden-end-reads
 use Rattle.read_phrases.proofs.kind_at.Reads as kind-at-reads
 use Rattle.read_simples.proofs.simple_at.Reads as simple-at-reads
-use Rattle.read_pieces.proofs.fill_choice.Reads as fill-choice-reads
-use Rattle.read_pieces.proofs.fill_hide.Reads as fill-hide-reads
+use Rattle.read_fills.proofs.fill_choice.Reads as fill-choice-reads
+use Rattle.read_fills.proofs.fill_hide.Reads as fill-hide-reads
 use Rattle.read_pieces.proofs.lower.Reads as lower-reads
-use Rattle.read_pieces.proofs.open_clause.Reads as open-clause-reads
-use Rattle.read_pieces.proofs.slots.Reads as slots-reads
+use Rattle.read_slots.proofs.open_clause.Reads as open-clause-reads
+use Rattle.read_slots.proofs.slots.Reads as slots-reads
 use Rattle.read_operators.proofs.mixes.Reads as mixes-reads
 use Rattle.read_operators.proofs.operates.Reads as operates-reads
 use Rattle.read_operators.proofs.twice.Reads as twice-reads
 use Rattle.read_scopes.proofs.bind.Reads as bind-reads
 use Rattle.read_scopes.proofs.unbind.Reads as unbind-reads
-use Rattle.mem_words.proofs.put.Reads as put-reads
+use Rattle.mem_put.proofs.put.Reads as put-reads
 use Rattle.read_nested.proofs.+bracket+clause+others+simple+statement.{statement}
 use Rattle.read_nested.proofs.+bracket+clause+others+simple+statement.Tie.{close}
 

@@ -14,7 +14,7 @@ use Rattle.read_programs.proofs.checked.Tie as tie
 use Rattle.read_programs.proofs.checked.Reads as reads
 use Rattle.read_programs.proofs.checked.Lts as lts
 use Rattle.read_bodies.proofs.bodies.Reads as bodies-reads
-use Rattle.read_emits.proofs.compact.Reads as compact-reads
+use Rattle.read_compact.proofs.compact.Reads as compact-reads
 use Rattle.read_heads.proofs.heads_of.Reads as heads-of-reads
 use Rattle.mem_numbers.proofs.fill_zero.Reads as fill-zero-reads
 use Rattle.read_pieces.proofs.lower.Reads as lower-reads

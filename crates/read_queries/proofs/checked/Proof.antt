@@ -8,7 +8,7 @@ use Rattle.read_queries.proofs.checked.Statement.{statement}
 use Rattle.read_queries.proofs.checked.Tie as tie
 use Rattle.read_queries.proofs.checked.Reads as reads
 use Rattle.read_queries.proofs.checked.Lts as lts
-use Rattle.read_emits.proofs.compact.Reads as compact-reads
+use Rattle.read_compact.proofs.compact.Reads as compact-reads
 use Rattle.mem_numbers.proofs.fill_zero.Reads as fill-zero-reads
 use Rattle.read_nested.proofs.statement.Reads as statement-reads
 use Rattle.refusals.proofs.of_tree.Reads as of-tree-reads

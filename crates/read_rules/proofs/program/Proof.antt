@@ -9,7 +9,7 @@ use Rattle.read_rules.proofs.program.Reads as reads
 use Rattle.read_rules.proofs.program.Lts as lts
 use Rattle.mem_numbers.proofs.short_count.Reads as short-count-reads
 use Rattle.read_programs.proofs.checked.Reads as checked-reads
-use Rattle.read_texts.proofs.program_text.Reads as program-text-reads
+use Rattle.read_programtext.proofs.program_text.Reads as program-text-reads
 
 program-text-requires : tie.Need-program-text-requires
 program-text-requires c κs = search needs

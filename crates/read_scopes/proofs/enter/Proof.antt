@@ -1,3 +1,4 @@
+use mathlib.Core.Path.{_∙_, refl}
 -- `read_scopes::enter` meets its contract. Assumes nothing.
 use native.Mathlib.Omega.{arith}
 use Rattle.read_scopes.specs.Scopes.{entered}
@@ -18,10 +19,10 @@ short-put-requires-2 : tie.Need-short-put-requires-2
 short-put-requires-2 c κs = record { inside = omega (arith, c .before .before .before .before .before .before .before .before .before .before .before .pre .name, c .before .before .before .before .before .before .before .name-at .ensures); small = c .before .before .before .before .before .before .before .before .before .before .before .pre .small }
 
 same-length : tie.Need-same-length
-same-length c = search needs
+same-length c = c .before .before .short-put2 .kept .0
 
 same-length-2 : tie.Need-same-length-2
-same-length-2 c = search needs
+same-length-2 c = c .before .before .before .before .before .before .short-put .kept .0
 
 returns : tie.Need-returns
 returns c = entered (c .before .before .before .before .before .before .before .before .before .before .name-at .ensures) (c .before .before .before .before .before .before .before .before .short-get .ensures .is) (c .before .before .before .before .before .before .short-put .ensures) (c .before .before .short-put2 .ensures)

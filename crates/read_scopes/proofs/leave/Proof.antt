@@ -1,3 +1,4 @@
+use mathlib.Core.Path.{_∙_, refl}
 -- `read_scopes::leave` meets its contract. Assumes nothing.
 use native.Mathlib.Omega.{arith}
 use Rattle.read_scopes.specs.Scopes.{left}
@@ -15,7 +16,7 @@ short-put-requires : tie.Need-short-put-requires
 short-put-requires c κs = record { inside = omega (arith, c .before .before .before .before .before .before .pre .name, c .before .before .name-at .ensures); small = omega (arith, c .before .short-get .ensures .small) }
 
 same-length : tie.Need-same-length
-same-length c = search needs
+same-length c = c .before .before .short-put .kept .0
 
 returns : tie.Need-returns
 returns c = left (c .before .before .before .before .before .name-at .ensures) (c .before .before .before .before .short-get .ensures .is) (c .before .before .short-put .ensures)

@@ -9,7 +9,7 @@ use Rattle.read_textcheck.proofs.program.Statement.{statement}
 use Rattle.read_textcheck.proofs.program.Tie as tie
 use Rattle.read_textcheck.proofs.program.Reads as reads
 use Rattle.read_textcheck.proofs.program.Lts as lts
-use Rattle.read_texts.proofs.program_text.Reads as program-text-reads
+use Rattle.read_programtext.proofs.program_text.Reads as program-text-reads
 use Rattle.read_lexicon.proofs.reserve.Reads as reserve-reads
 use Rattle.read_textcheck.proofs.cells_space.Reads as cells-space-reads
 use Rattle.read_textcheck.proofs.codes_space.Reads as codes-space-reads

@@ -16,7 +16,7 @@ use Rattle.read_texts.proofs.query_text.Statement.{statement}
 use Rattle.read_texts.proofs.query_text.Tie as tie
 use Rattle.read_texts.proofs.query_text.Reads as reads
 use Rattle.read_texts.proofs.query_text.Lts as lts
-use Rattle.read_grammar.proofs.query_is.Reads as query-is-reads
+use Rattle.read_shapes.proofs.query_is.Reads as query-is-reads
 use Rattle.read_tokenise.proofs.tokenise.Reads as tokenise-reads
 
 returns : tie.Need-returns

@@ -31,7 +31,7 @@ emit-requires : tie.Need-emit-requires
 emit-requires c κs = record { value = omega (arith, c .before .before .short-get .ensures .small) }
 
 same-length : tie.Need-same-length
-same-length c = search needs
+same-length c = c .before .before .before .emit .kept .0
 
 returns : tie.Need-returns
 returns c = one-full (c .before .before .before .before .before .before .before .before .before .before .args .id) (emit-no (Level (c .before .before .before .before .before .before .short-get .result - 1)) (c .before .before .before .emit .result) (c .before .before .before .emit .ensures) (not-true (c .before .before .before .emit .result) (c .if2 .taken))) refl
@@ -42,7 +42,7 @@ add-t16 c =
     omega (arith, e .room, length-words (c .before .before .before .before .before .before .before .before .before .before .args .out .now))
 
 same-length-2 : tie.Need-same-length-2
-same-length-2 c = search needs
+same-length-2 c = c .before .before .before .emit .kept .0
 
 returns-2 : tie.Need-returns-2
 returns-2 c = one-level (c .before .before .before .before .before .before .before .before .before .before .pre) (c .before .before .before .before .before .before .short-get .result - 1) (omega (arith, c .before .before .before .before .before .before .short-get .ensures .is)) (emit-yes (c .before .before .before .emit .result) (c .before .before .before .emit .ensures) (not-false (c .before .before .before .emit .result) (c .if2 .left)))
@@ -51,7 +51,7 @@ emit-requires-2 : tie.Need-emit-requires-2
 emit-requires-2 c κs = record { value = omega arith }
 
 same-length-3 : tie.Need-same-length-3
-same-length-3 c = search needs
+same-length-3 c = c .before .before .before .emit2 .kept .0
 
 returns-3 : tie.Need-returns-3
 returns-3 c = one-full (c .before .before .before .before .before .before .before .before .before .before .before .args .id) (emit-no (Free 0) (c .before .before .before .emit2 .result) (c .before .before .before .emit2 .ensures) (not-true (c .before .before .before .emit2 .result) (c .if4 .taken))) refl
@@ -62,7 +62,7 @@ add-t24 c =
     omega (arith, e .room, length-words (c .before .before .before .before .before .before .before .before .before .before .before .args .out .now))
 
 same-length-4 : tie.Need-same-length-4
-same-length-4 c = search needs
+same-length-4 c = c .before .before .before .emit2 .kept .0
 
 returns-4 : tie.Need-returns-4
 returns-4 c = one-free (c .before .before .before .before .before .before .before .before .before .before .before .pre) (not-true (c .before .before .before .before .before .before .before .before .before .before .before .args .query) (c .before .before .before .before .before .if3 .taken)) (omega (arith, c .before .before .before .before .before .before .before .short-get .ensures .is)) (emit-yes (c .before .before .before .emit2 .result) (c .before .before .before .emit2 .ensures) (not-false (c .before .before .before .emit2 .result) (c .if4 .left)))
@@ -82,10 +82,10 @@ emit-requires-3 c κs =
     free-small (c .free .ensures) (omega (arith, f .inside, c .before .before .before .before .before .before .before .before .before .before .before .before .before .pre .few))
 
 same-length-5 : tie.Need-same-length-5
-same-length-5 c = search needs
+same-length-5 c = c .before .before .before .emit3 .kept .0
 
 same-length-6 : tie.Need-same-length-6
-same-length-6 c = search needs
+same-length-6 c = refl
 
 returns-5 : tie.Need-returns-5
 returns-5 c = one-full (c .before .before .before .before .before .before .before .before .before .before .before .before .before .before .before .before .before .args .id) (emit-no (c .before .before .before .before .free .result) (c .before .before .before .emit3 .result) (c .before .before .before .emit3 .ensures) (not-true (c .before .before .before .emit3 .result) (c .if5 .taken))) refl
@@ -99,7 +99,7 @@ enum-told : tie.Need-enum-told
 enum-told c = search needs
 
 same-length-7 : tie.Need-same-length-7
-same-length-7 c = search needs
+same-length-7 c = refl
 
 returns-6 : tie.Need-returns-6
 returns-6 c =
@@ -116,10 +116,10 @@ emit-requires-4 : tie.Need-emit-requires-4
 emit-requires-4 c κs = free-small (c .free2 .ensures) (omega (arith, c .before .before .before .before .before .before .before .before .before .before .before .before .before .before .before .before .before .pre .few))
 
 same-length-8 : tie.Need-same-length-8
-same-length-8 c = search needs
+same-length-8 c = c .before .before .before .emit4 .kept .0
 
 same-length-9 : tie.Need-same-length-9
-same-length-9 c = search needs
+same-length-9 c = c .before .before .before .before .before .before .before .before .short-put .kept .0
 
 returns-7 : tie.Need-returns-7
 returns-7 c = one-full (c .before .before .before .before .before .before .before .before .before .before .before .before .before .before .before .before .before .before .before .before .before .args .id) (emit-no (c .before .before .before .before .free2 .result) (c .before .before .before .emit4 .result) (c .before .before .before .emit4 .ensures) (not-true (c .before .before .before .emit4 .result) (c .if7 .taken))) (c .before .before .before .before .before .before .before .before .short-put .ensures .long)
@@ -133,10 +133,10 @@ add-t43 : tie.Need-add-t43
 add-t43 c = search needs
 
 same-length-10 : tie.Need-same-length-10
-same-length-10 c = search needs
+same-length-10 c = c .before .before .before .emit3 .kept .0
 
 same-length-11 : tie.Need-same-length-11
-same-length-11 c = search needs
+same-length-11 c = refl
 
 returns-8 : tie.Need-returns-8
 returns-8 c =
@@ -144,10 +144,10 @@ returns-8 c =
     one-found (c .before .before .before .before .before .before .before .before .before .before .before .before .before .before .before .before .before .pre) (c .before .before .before .before .before .before .before .f .given .0 .0) (not-false (c .before .before .before .before .before .before .before .before .before .before .before .before .before .before .before .before .before .args .query) (c .before .before .before .before .before .before .before .before .before .before .before .if3 .left)) (omega (arith, c .before .before .before .before .before .before .before .before .before .before .before .before .before .short-get .ensures .is)) f (c .before .before .before .before .free .ensures) (emit-yes (c .before .before .before .emit3 .result) (c .before .before .before .emit3 .ensures) (not-false (c .before .before .before .emit3 .result) (c .if5 .left)))
 
 same-length-12 : tie.Need-same-length-12
-same-length-12 c = search needs
+same-length-12 c = c .before .before .before .emit4 .kept .0
 
 same-length-13 : tie.Need-same-length-13
-same-length-13 c = search needs
+same-length-13 c = c .before .before .before .before .before .before .before .before .short-put .kept .0
 
 returns-9 : tie.Need-returns-9
 returns-9 c =
