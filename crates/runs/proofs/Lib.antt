@@ -5,4 +5,7 @@ pub mod Shows
 pub mod SameTerms
 pub mod Printed
 pub mod SameText
+pub mod CallsHold
 pub mod Demand3
+pub mod Used
+pub mod UsedFailed

@@ -15,8 +15,7 @@ use Rattle.akl.specs.Token.{Class, small, capital, digit, underscore, blank, ma
 use Rattle.akl.specs.Answers.{Term, unbound, built, Terms, no-terms, more-terms}
 use Rattle.akl.specs.Limits.{name-bytes}
 use Rattle.akl.specs.WellFormed.{is-small, begins, spelled-name, spelled-digits}
-use Rattle.runs.specs.Shown.{Spelled, term-bytes, arguments-bytes, rest-bytes, bindings-bytes, line-bytes}
-use Rattle.runs.proofs.SameTerms.{SpelledTerm, SpelledTerms}
+use Rattle.runs.specs.Shown.{Spelled, SpelledTerm, SpelledTerms, AsMany, term-bytes, arguments-bytes, rest-bytes, bindings-bytes, line-bytes}
 
 -- ---------------------------------------------------------------------------------------------
 -- Runs of letters, digits and underscores.
@@ -219,13 +218,6 @@ mutual
 
 -- ---------------------------------------------------------------------------------------------
 -- Lines, for the same names.
-
--- as many terms as names
-abbrev pub AsMany : List Name → Terms → Type 0
-AsMany [] no-terms = Unit {0}
-AsMany [] (more-terms t ts) = ⊥
-AsMany (x ∷ xs) no-terms = ⊥
-AsMany (x ∷ xs) (more-terms t ts) = AsMany xs ts
 
 bindings-inj : (xs : List Name) (ss ts : Terms) → AsMany xs ss → AsMany xs ts → SpelledTerms ss → SpelledTerms ts → bindings-bytes xs ss ≡ bindings-bytes xs ts → ss ≡ ts
 unfolding bindings-bytes bytes bytes-from

@@ -16,7 +16,7 @@ use Rattle.akl.specs.Base.{size, range, if}
 use Rattle.akl.specs.Answers.{Term, unbound, built, Terms, no-terms, more-terms, terms, unknowns, unknowns-all, position}
 use Rattle.akl.specs.Token.{class-of}
 use Rattle.akl.specs.WellFormed.{spelled-name, spelled-digits}
-use Rattle.runs.specs.Shown.{Spelled, tree-of, forest-of, FitsText, numbered-term, numbered-terms}
+use Rattle.runs.specs.Shown.{Spelled, SpelledTerm, SpelledTerms, tree-of, forest-of, FitsText, numbered-term, numbered-terms}
 
 -- ---------------------------------------------------------------------------------------------
 -- Numbered by first appearance: read from the left, each unknown is one of the n met before, or is n itself.
@@ -100,15 +100,6 @@ mutual
 
 -- ---------------------------------------------------------------------------------------------
 -- Labels that a text may show.
-
-abbrev mutual
-  pub SpelledTerm : Term → Type 0
-  SpelledTerm (unbound i) = Unit {0}
-  SpelledTerm (built f ts) = Spelled f × SpelledTerms ts
-
-  pub SpelledTerms : Terms → Type 0
-  SpelledTerms no-terms = Unit {0}
-  SpelledTerms (more-terms t ts) = SpelledTerm t × SpelledTerms ts
 
 -- A constant of its own for each unknown, whose label no text can have.
 own : Asg

@@ -20,13 +20,13 @@ use Rattle.akl.specs.Answers.{Answer, solved-box, answers, answers-all, Term, u
 use Rattle.akl.specs.WellFormed.{stored-fits, few, spelled-name, spelled-digits, statements-pass}
 use Rattle.theory.specs.Scope.{Sub, Ok, OkAll}
 use Rattle.runs.specs.Calls.{AnswerIn, Allows}
-use Rattle.runs.specs.Shown.{Spelled, SpelledCon, SpelledStore, Fair, FitsText, numbered-term, numbered-terms, solved-terms, class-terms, shown-terms, term-bytes, arguments-bytes, rest-bytes, bindings-bytes, line-bytes}
+use Rattle.runs.specs.Shown.{Spelled, SpelledTerm, SpelledTerms, AsMany, ReadsAs, SpelledCon, SpelledStore, Fair, FitsText, numbered-term, numbered-terms, solved-terms, class-terms, shown-terms, term-bytes, arguments-bytes, rest-bytes, bindings-bytes, line-bytes}
 use Rattle.theory.proofs.Locals.{size-range}
 use Rattle.theory.proofs.InContext.{Pass, PassAll, pass-cons, pass-and}
 use Rattle.runs.proofs.AnswerSolutions.{in-answers, answer-satisfiable}
 use Rattle.runs.proofs.Shows.{shown-iff}
-use Rattle.runs.proofs.SameTerms.{SpelledTerm, SpelledTerms, same-fit}
-use Rattle.runs.proofs.Printed.{AsMany, line-inj}
+use Rattle.runs.proofs.SameTerms.{same-fit}
+use Rattle.runs.proofs.Printed.{line-inj}
 
 -- ---------------------------------------------------------------------------------------------
 -- Labels stay those of the constraints.
@@ -187,6 +187,13 @@ module _ (xs : List Name) where
   shown-spelled a f =
       let w = solved-state a f in
       subst (λ o. SpelledTerms (numbered-terms (solved-terms q o) (unknowns-all (solved-terms q o) [])) × AsMany xs (numbered-terms (solved-terms q o) (unknowns-all (solved-terms q o) []))) (sym (w .1)) (numbered-spelled-all (terms (value (suc (size (w .0 .bs))) (w .0)) (range 0 q)) _ (terms-spelled (value (suc (size (w .0 .bs))) (w .0)) (range 0 q) (λ y. value-spelled (suc (size (w .0 .bs))) (w .0) y (w .2))), as-many xs (value (suc (size (w .0 .bs))) (w .0)) 0 _)
+
+  -- The text reads as the shown terms, and as no others.
+  pub text-reads : (a : Answer) → Fair a → ReadsAs xs (answer-text xs a) (shown-terms q a)
+  text-reads a f = let w = shown-spelled a f in record { as-many = w .1; spelled = w .0; printed = text-shown a f }
+
+  pub reads-once : (t : List ℕ) (ss ts : Terms) → ReadsAs xs t ss → ReadsAs xs t ts → ss ≡ ts
+  reads-once t ss ts r s = line-inj xs ss ts (r .as-many) (s .as-many) (r .spelled) (s .spelled) (sym (r .printed) ∙ s .printed)
 
   same-shown : (a b : Answer) → Fair a → Fair b → ((ρ : Asg) → Allows q a ρ ↔ Allows q b ρ) → shown-terms q a ≡ shown-terms q b
   same-shown a b f g h = subst (λ o. numbered-terms (solved-terms q o) (unknowns-all (solved-terms q o) []) ≡ shown-terms q b) (sym (u .1)) (subst (λ o. numbered-terms (solved-terms q (some (u .0))) (unknowns-all (solved-terms q (some (u .0))) []) ≡ numbered-terms (solved-terms q o) (unknowns-all (solved-terms q o) [])) (sym (v .1)) (same-fit q (value (suc (size (u .0 .bs))) (u .0)) (value (suc (size (v .0 .bs))) (v .0)) (subst (λ o. SpelledTerms (numbered-terms (solved-terms q o) (unknowns-all (solved-terms q o) []))) (u .1) (shown-spelled a f .0)) (subst (λ o. SpelledTerms (numbered-terms (solved-terms q o) (unknowns-all (solved-terms q o) []))) (v .1) (shown-spelled b g .0)) fits))

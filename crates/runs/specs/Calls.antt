@@ -1,8 +1,10 @@
--- Runs, on abstract configurations: lists of calls from the start of a query.
+-- Runs, on abstract configurations: lists of calls from the start of a query, and the steps accepted on the way.
 use mathlib.Core.Path.{_≡_}
 use mathlib.Core.Logic.{_⊎_, inl, inr}
 use mathlib.Core.List.{List, [], _∷_, _++_}
+use mathlib.Core.Bool.{Bool, _||_, not}
 use Prim.Native.Nat.{ℕ, zero, suc}
+use lib.Dec.{T, eqb}
 use Rattle.constraint.specs.Constraint.{Asg, Off, Sats}
 use Rattle.akl.specs.Base.{Name, size, Result, refused, ok}
 use Rattle.akl.specs.Syntax.{Program}
@@ -12,11 +14,19 @@ use Rattle.akl.specs.Step.{step, Run, steps}
 use Rattle.akl.specs.Answers.{Answer, State, failed, final, open-state}
 use Rattle.theory.specs.Meaning.{hidden-locals}
 
--- A call: a step, a steps text, or a question for the answer of a number in a slice of a length.
+-- Why a call may be refused before anything is tried: 8 "store or working slice shorter than the documented length",
+-- 9 "store holds no well-formed program and configuration".
+pub data Unfit : Type 0 where
+  slice-short store-bad : Unfit
+
+-- A call: a step, a steps text, a question for the answer of a number in a slice of a length, or for the state; or any call
+-- that is refused for its slices or its store.
 pub data Call : Type 0 where
   one-step : Step → Call
   steps-text : List ℕ → Call
   ask-answer : ℕ → ℕ → Call
+  ask-state : Call
+  unfit-call : Unfit → Call
 
 -- The configuration after a call, refused or not.
 abbrev pub stepped : Config → Result Config → Config
@@ -31,38 +41,64 @@ abbrev pub after-call : ℕ → Program → Config → Call → Config
 after-call limit P c (one-step s) = stepped c (step limit P c s)
 after-call limit P c (steps-text t) = texted limit P c (read-steps t)
 after-call limit P c (ask-answer n m) = c
+after-call limit P c ask-state = c
+after-call limit P c (unfit-call u) = c
 
--- The rules of the steps that a call accepts.
-abbrev pub step-rule : ℕ → Result Config → List ℕ
-step-rule r (refused n) = []
-step-rule r (ok d) = r ∷ []
+-- An accepted step: the configurations before and after it.
+pub record Move : Type 0 where
+  pub before : Config
+  pub taken : Step
+  pub after : Config
 
-unfoldable pub steps-rules : ℕ → Program → Config → List Step → List ℕ
-steps-rules limit P c [] = []
-steps-rules limit P c (s ∷ ss) = elim (step limit P c s) [ refused n ↦ [] | ok d ↦ s .rule ∷ steps-rules limit P d ss ]
+abbrev pub move : Config → Step → Config → Move
+move c s d = record { before = c; taken = s; after = d }
 
-abbrev pub text-rules : ℕ → Program → Config → Result (List Step) → List ℕ
-text-rules limit P c (refused n) = []
-text-rules limit P c (ok ss) = steps-rules limit P c ss
+-- The steps that a call accepts, in their order.
+abbrev pub step-moves : Config → Step → Result Config → List Move
+step-moves c s (refused n) = []
+step-moves c s (ok d) = move c s d ∷ []
 
-abbrev pub call-rules : ℕ → Program → Config → Call → List ℕ
-call-rules limit P c (one-step s) = step-rule (s .rule) (step limit P c s)
-call-rules limit P c (steps-text t) = text-rules limit P c (read-steps t)
-call-rules limit P c (ask-answer n m) = []
+unfoldable pub steps-moves : ℕ → Program → Config → List Step → List Move
+steps-moves limit P c [] = []
+steps-moves limit P c (s ∷ ss) = elim (step limit P c s) [ refused n ↦ [] | ok d ↦ move c s d ∷ steps-moves limit P d ss ]
 
--- A list of calls: the configuration they lead to, and the rules of all steps accepted on the way.
+abbrev pub text-moves : ℕ → Program → Config → Result (List Step) → List Move
+text-moves limit P c (refused n) = []
+text-moves limit P c (ok ss) = steps-moves limit P c ss
+
+abbrev pub call-moves : ℕ → Program → Config → Call → List Move
+call-moves limit P c (one-step s) = step-moves c s (step limit P c s)
+call-moves limit P c (steps-text t) = text-moves limit P c (read-steps t)
+call-moves limit P c (ask-answer n m) = []
+call-moves limit P c ask-state = []
+call-moves limit P c (unfit-call u) = []
+
+-- A list of calls: the configuration they lead to, and all steps accepted on the way.
 unfoldable pub after-calls : ℕ → Program → Config → List Call → Config
 after-calls limit P c [] = c
 after-calls limit P c (k ∷ ks) = after-calls limit P (after-call limit P c k) ks
 
-unfoldable pub calls-rules : ℕ → Program → Config → List Call → List ℕ
-calls-rules limit P c [] = []
-calls-rules limit P c (k ∷ ks) = call-rules limit P c k ++ calls-rules limit P (after-call limit P c k) ks
+unfoldable pub calls-moves : ℕ → Program → Config → List Call → List Move
+calls-moves limit P c [] = []
+calls-moves limit P c (k ∷ ks) = call-moves limit P c k ++ calls-moves limit P (after-call limit P c k) ks
 
--- No condition and no commit step is among them.
-abbrev pub NoPruning : List ℕ → Type 0
+-- From c to d by accepted steps, one after the other.
+abbrev pub Chain : ℕ → Program → Config → List Move → Config → Type 0
+Chain limit P c [] d = c ≡ d
+Chain limit P c (m ∷ ms) d = (m .before ≡ c) × (step limit P (m .before) (m .taken) ≡ ok (m .after)) × Chain limit P (m .after) ms d
+
+-- "condition and commit steps (7, 8)"
+abbrev pub prunes : ℕ → Bool
+prunes r = eqb r 7 || eqb r 8
+
+-- The step is neither.
+abbrev pub Keeps-all : Move → Type 0
+Keeps-all m = T (not (prunes (m .taken .rule)))
+
+-- None among them is a condition or commit step.
+abbrev pub NoPruning : List Move → Type 0
 NoPruning [] = Unit {0}
-NoPruning (r ∷ rs) = ¬ (r ≡ 7) × ¬ (r ≡ 8) × NoPruning rs
+NoPruning (m ∷ ms) = Keeps-all m × NoPruning ms
 
 -- The answer is one of the list.
 abbrev pub AnswerIn : Answer → List Answer → Type 0

@@ -1,3 +1,5 @@
 pub mod Calls
+pub mod Outcomes
 pub mod Shown
+pub mod CallHolds
 pub mod RunHolds

@@ -74,11 +74,37 @@ line-bytes [] ts = bytes "true"
 line-bytes (x ∷ xs) ts = bindings-bytes (x ∷ xs) ts
 
 -- ---------------------------------------------------------------------------------------------
--- What is known of an answer of a well-formed configuration: it has a solution, its store mentions its own locals alone,
--- and its labels are spelled as names or digits.
+-- How a text reads: labels are spelled as names or digits.
 
 abbrev pub Spelled : Label → Type 0
 Spelled f = T (spelled-name f || spelled-digits f)
+
+-- terms whose labels are
+abbrev mutual
+  pub SpelledTerm : Term → Type 0
+  SpelledTerm (unbound i) = Unit {0}
+  SpelledTerm (built f ts) = Spelled f × SpelledTerms ts
+
+  pub SpelledTerms : Terms → Type 0
+  SpelledTerms no-terms = Unit {0}
+  SpelledTerms (more-terms t ts) = SpelledTerm t × SpelledTerms ts
+
+-- as many terms as names
+abbrev pub AsMany : List Name → Terms → Type 0
+AsMany [] no-terms = Unit {0}
+AsMany [] (more-terms t ts) = ⊥
+AsMany (x ∷ xs) no-terms = ⊥
+AsMany (x ∷ xs) (more-terms t ts) = AsMany xs ts
+
+-- The text reads as the terms: as many as names, spelled as terms are, and printed so.
+pub record ReadsAs (xs : List Name) (t : List ℕ) (ts : Terms) : Type 0 where
+  pub as-many : AsMany xs ts
+  pub spelled : SpelledTerms ts
+  pub printed : t ≡ line-bytes xs ts
+
+-- ---------------------------------------------------------------------------------------------
+-- What is known of an answer of a well-formed configuration: it has a solution, its store mentions its own locals alone,
+-- and its labels are spelled as names or digits.
 
 abbrev pub SpelledCon : Con ℕ → Type 0
 SpelledCon ctrue = Unit {0}
