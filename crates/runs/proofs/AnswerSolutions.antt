@@ -76,11 +76,13 @@ module _ (Q : Model) (q : ℕ) (ρ : Asg) where
 -- Failed or final: its answers allow exactly its solutions.
 pub ended-complete : (Q : Model) (q : ℕ) (ρ : Asg) (n : Node goal) → Ended (state n) → HoldsWith n Q q ρ nothing → AllowedBy q (answers n) ρ
 unfolding state answers
+ended-complete Q q ρ (and vs σ ms) e h = absurd e
 ended-complete Q q ρ (or nil) e h = h
 ended-complete Q q ρ (or (cons n ns)) e h = go (all-answers (cons n ns)) refl e
   where
     go : (b : Bool) → all-answers (cons n ns) ≡ b → Ended (if b final open-state) → AllowedBy q (answers-all (cons n ns)) ρ
     go true p u = all-complete Q q ρ (cons n ns) (subst T (sym p) tt) h
+    go false p u = absurd u
 
 -- A solved box without a solution is no answer: every answer has one.
 box-satisfiable : (vs : List ℕ) (σ : Store) (ms : Nodes member) (b : Answer) → AnswerIn b (solved-box vs σ ms) → Satisfiable (b .1)

@@ -13,15 +13,15 @@ use Rattle.akl.specs.Syntax.{Program, atom}
 use Rattle.akl.specs.StepsText.{Step}
 use Rattle.akl.specs.Reader.{Query, read-program, read-query}
 use Rattle.akl.specs.Configuration.{or, nil, Config}
-use Rattle.akl.specs.Step.{steps}
+use Rattle.akl.specs.Step.{step, steps}
 use Rattle.akl.specs.Record.{start}
 use Rattle.akl.specs.Answers.{Answer, built, no-terms, more-terms, answers, final, open-state}
 use Rattle.akl.specs.Computed.{everything}
 use Rattle.theory.specs.Meaning.{Solution, QuerySolution}
-use Rattle.runs.specs.Calls.{slice-short, store-bad, Call, one-step, steps-text, ask-answer, ask-state, unfit-call, Move, move, after-calls, calls-moves, call-moves, steps-moves}
+use Rattle.runs.specs.Calls.{slice-short, store-bad, Call, Allows, one-step, steps-text, ask-answer, ask-state, unfit-call, Move, move, after-calls, calls-moves, call-moves, steps-moves}
 use Rattle.runs.specs.Outcomes.{Outcome, refusal, accepted, shown, stands, outcome, outcomes}
 use Rattle.runs.specs.Shown.{term-bytes, bindings-bytes}
-use Rattle.runs.specs.CallHolds.{CallHolds}
+use Rattle.runs.specs.CallHolds.{Next, TextHolds, CallHolds}
 use Rattle.runs.specs.RunHolds.{RunHolds}
 use Rattle.runs.proofs.Demand3.{demand-3}
 
@@ -112,17 +112,42 @@ pub used-going-on : after-calls 2048 P₀ c₀ ks₀ ≡ after-calls 2048 P₀ s
 unfolding everything P₀ q₀ c₀ before₀ behind₀ ks₀ program-of query-of config-of after-calls ran₀ split
 used-going-on = held ks₀ .each-call before₀ first-text behind₀ refl .goes-on
 
--- It does what four single steps do, each accepted.
+-- It does what four single steps do, each accepted, and the next one is refused with 11.
 abbrev pub unfolded : Config
 unfolded = after-calls 2048 P₀ c₀ before₀
 
+first-held : TextHolds 2048 P₀ (q₀ .variables) unfolded (bytes "5 2 0\n1 5 0\n1 7 0\n12 2 1\n6 99 0\n14 1 0\n") (line 5 2 0 ∷ line 1 5 0 ∷ line 1 7 0 ∷ line 12 2 1 ∷ line 6 99 0 ∷ line 14 1 0 ∷ [])
+unfolding everything before₀ behind₀ ks₀
+first-held = held ks₀ .each-call before₀ first-text behind₀ refl .holds .told .1 (line 5 2 0 ∷ line 1 5 0 ∷ line 1 7 0 ∷ line 12 2 1 ∷ line 6 99 0 ∷ line 14 1 0 ∷ []) refl
+
+first-told : (size (first-held .done) ≡ 4) × (first-held .next ≡ 11)
+unfolding everything P₀ q₀ c₀ before₀ behind₀ ks₀ program-of query-of config-of after-calls
+first-told =
+    let e : accepted 4 11 ≡ accepted (size (first-held .done)) (first-held .next) = first-held .told in
+    let n : size (first-held .done) ≡ 4 = cc e in
+    let r : first-held .next ≡ 11 = cc e in
+    (n, r)
+
 pub used-text : (done : List Step) × (size done ≡ 4) × (split ≡ after-calls 2048 P₀ unfolded (map one-step done)) × (outcomes 2048 P₀ (q₀ .variables) unfolded (map one-step done) ≡ map (λ s. accepted 1 0) done)
 unfolding everything P₀ q₀ c₀ before₀ behind₀ ks₀ program-of query-of config-of after-calls ran₀ split
-used-text =
-    let w = held ks₀ .each-call before₀ first-text behind₀ refl .holds .told .1 (line 5 2 0 ∷ line 1 5 0 ∷ line 1 7 0 ∷ line 12 2 1 ∷ line 6 99 0 ∷ line 14 1 0 ∷ []) refl in
-    let e : accepted 4 11 ≡ accepted (size (w .done)) (w .next) = w .told in
-    let n : size (w .done) ≡ 4 = cc e in
-    (w .done, n, w .same-end, w .singles)
+used-text = (first-held .done, first-told .0, first-held .same-end, first-held .singles)
+
+pub used-next : (s : Step) × (step 2048 P₀ split s ≡ refused 11)
+unfolding everything P₀ q₀ c₀ before₀ behind₀ ks₀ program-of query-of config-of after-calls ran₀ split
+used-next = go (first-held .left) (first-held .next) (first-told .1) (first-held .is-next)
+  where
+    go : (l : List Step) (r : ℕ) → r ≡ 11 → Next 2048 P₀ split l r → (s : Step) × (step 2048 P₀ split s ≡ refused 11)
+    go [] r p e = absurd (omega arith)
+    go (s ∷ l) r p e = (s, e ∙ ap refused p)
+
+-- The splitting is accepted where it stands in the chain; a refused step is no step.
+pub used-chain : step 2048 P₀ unsplit (line 12 2 1) ≡ ok split
+unfolding everything P₀ q₀ c₀ before₀ behind₀ ks₀ program-of query-of config-of after-calls calls-moves steps-moves ran₀ unsplit split
+used-chain = held ks₀ .chain .2 .2 .2 .2 .1
+
+pub used-refused : call-moves 2048 P₀ c₀ (one-step (line 9 1 0)) ≡ []
+unfolding everything P₀ q₀ c₀ program-of query-of config-of after-calls
+used-refused = held (one-step (line 9 1 0) ∷ []) .each-call [] (one-step (line 9 1 0)) [] refl .holds .counts
 
 -- Questions at the end: the text of the second answer where it fits its slice, 17 where it does not, 16 beyond the last.
 asked : (k : Call) → CallHolds 2048 P₀ q₀ (after-calls 2048 P₀ c₀ ks₀) k
@@ -158,3 +183,11 @@ unfolding after-calls
 used-unfit =
     let w = held (ks₀ ++ (unfit-call store-bad ∷ [])) .each-call ks₀ (unfit-call store-bad) [] refl in
     (w .holds .told, w .goes-on ∙ sym (w .holds .chain))
+
+-- The second answer again, at the end of another run, with one text for all steps: it has the same text, and so the same solutions.
+unfoldable pub ls₀ : List Call
+ls₀ = steps-text (bytes "2 2 0\n5 2 0\n1 8 0\n1 5 0\n12 2 1\n14 1 0\n6 2 0\n6 4 0\n1 4 0\n1 2 0\n") ∷ []
+
+pub used-apart : (ρ : Asg) → Allows 1 second-answer ρ ↔ Allows 1 second-answer ρ
+unfolding everything P₀ q₀ c₀ before₀ behind₀ ks₀ ls₀ program-of query-of config-of after-calls second-answer
+used-apart = held ks₀ .texts-apart ls₀ second-answer second-answer (inr (inl refl)) (inr (inl refl)) .0 refl
