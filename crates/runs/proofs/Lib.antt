@@ -1,5 +1,6 @@
 pub mod Start
 pub mod AnswerSolutions
+pub mod AnswersStand
 pub mod Runs
 pub mod Shows
 pub mod SameTerms

@@ -1,4 +1,5 @@
 pub mod Calls
+pub mod AnswerPlaces
 pub mod Outcomes
 pub mod Shown
 pub mod CallHolds

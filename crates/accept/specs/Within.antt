@@ -1,0 +1,33 @@
+-- "it or anything inside it", said by contexts: the node m in its context χ′ is the node n in its context χ, or stands in it.
+-- Places by number (Accepts: Inside) are counted; here nothing is.
+use mathlib.Core.List.{List, [], _∷_, _++_}
+use Prim.Native.Nat.{ℕ}
+use Rattle.constraint.specs.Constraint.{Store}
+use Rattle.akl.specs.Syntax.{Op, Stmt}
+use Rattle.akl.specs.Configuration.{Kind, goal, member, guarded, Node, or, and, stmt, choice-box, guard, Nodes, cons, _+n_, Ctx, in-or, in-and, in-choice, in-guard, env}
+use Rattle.akl.specs.Places.{Place, at}
+
+pub data Within {k : Kind} (χ : Ctx k) (n : Node k) : (j : Kind) → Ctx j → Node j → Type 0 where
+  itself : Within χ n k χ n
+  in-an-or : (χ′ : Ctx goal) (l r : Nodes goal) (m : Node goal) → Within χ n goal χ′ (or (l +n cons m r)) → Within χ n goal (in-or χ′ l r) m
+  in-an-and : (χ′ : Ctx goal) (vs : List ℕ) (σ : Store) (l r : Nodes member) (m : Node member) → Within χ n goal χ′ (and vs σ (l +n cons m r)) → Within χ n member (in-and χ′ vs σ l r) m
+  in-a-choice : (χ′ : Ctx member) (op : Op) (l r : Nodes guarded) (m : Node guarded) → Within χ n member χ′ (choice-box op (l +n cons m r)) → Within χ n guarded (in-choice χ′ op l r) m
+  in-a-guard : (χ′ : Ctx guarded) (b : Stmt) (m : Node goal) → Within χ n guarded χ′ (guard m b) → Within χ n goal (in-guard χ′ b) m
+
+abbrev pub WithinPlace : {k : Kind} → Ctx k → Node k → Place → Type 0
+WithinPlace χ n (at χ′ m) = Within χ n _ χ′ m
+
+-- For an and-box: what is stored around it and in it; its locals. Other places have none.
+abbrev pub stores-at : Place → List Store
+stores-at (at χ (or ns)) = []
+stores-at (at χ (and vs σ ms)) = (env χ ++ σ) ∷ []
+stores-at (at χ (stmt s)) = []
+stores-at (at χ (choice-box op gs)) = []
+stores-at (at χ (guard g b)) = []
+
+abbrev pub locals-at : Place → List ℕ
+locals-at (at χ (or ns)) = []
+locals-at (at χ (and vs σ ms)) = vs
+locals-at (at χ (stmt s)) = []
+locals-at (at χ (choice-box op gs)) = []
+locals-at (at χ (guard g b)) = []
