@@ -1,8 +1,10 @@
 pub mod Effects
 pub mod EffectSound
 pub mod PlaceLaws
+pub mod InsideLaws
 pub mod Stable
 pub mod Accepted
 pub mod StepTheorem
+pub mod StoresDown
 pub mod StaysStable
 pub mod Losses

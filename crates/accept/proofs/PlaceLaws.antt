@@ -21,7 +21,7 @@ use Rattle.accept.proofs.EffectSound.{whole}
 pub no-place : {A : Type 0} (x : A) → _≡_ {A = Option A} none (some x) → ⊥
 no-place x q = let z : _≡_ {A = ℕ} 0 1 = cc in omega arith
 
-nth-split : {A : Type 0} (a b : List A) (p : ℕ) (x : A) → nth (a ++ b) p ≡ some x → (nth a p ≡ some x) ⊎ ((j : ℕ) × (p ≡ size a + j) × (nth b j ≡ some x))
+pub nth-split : {A : Type 0} (a b : List A) (p : ℕ) (x : A) → nth (a ++ b) p ≡ some x → (nth a p ≡ some x) ⊎ ((j : ℕ) × (p ≡ size a + j) × (nth b j ≡ some x))
 unfolding nth size
 nth-split [] b p x e = inr (p, omega arith, e)
 nth-split (y ∷ a) b zero x e = inl e
@@ -41,7 +41,7 @@ nth-right (y ∷ a) b p = ap (nth (y ∷ (a ++ b))) shift ∙ nth-right a b p
     shift : suc (size a) + p ≡ suc (size a + p)
     shift = omega arith
 
-append-one : {k : Kind} (l : Nodes k) (n : Node k) (r : Nodes k) → (l +n one n) +n r ≡ l +n cons n r
+pub append-one : {k : Kind} (l : Nodes k) (n : Node k) (r : Nodes k) → (l +n one n) +n r ≡ l +n cons n r
 unfolding _+n_
 append-one nil n r = refl
 append-one (cons m l) n r = ap (cons m) (append-one l n r)
@@ -51,7 +51,7 @@ unfolding _+n_
 append-none nil = refl
 append-none (cons m l) = ap (cons m) (append-none l)
 
-counts-append : {k : Kind} (a b : Nodes k) → counts (a +n b) ≡ counts a + counts b
+pub counts-append : {k : Kind} (a b : Nodes k) → counts (a +n b) ≡ counts a + counts b
 unfolding _+n_ count
 counts-append nil b = omega arith
 counts-append (cons n a) b = omega (arith, counts-append a b)
@@ -138,7 +138,7 @@ place-numbered c p χ n e = right-at (c .root) top p (at χ n) e .1 ∙ zero-add
 -- Every node in its context has a place.
 
 -- M stands in L from position b on
-abbrev Block : List Place → ℕ → List Place → Type 0
+abbrev pub Block : List Place → ℕ → List Place → Type 0
 Block L b M = (j : ℕ) (x : Place) → nth M j ≡ some x → nth L (b + j) ≡ some x
 
 block-then : (L M K : List Place) (a b : ℕ) → Block L a M → Block M b K → Block L (a + b) K
@@ -174,7 +174,7 @@ deeper χ m χ′ n b f g = subst (λ p. Block (places (plug χ m) top) p (place
     shift : place-number χ + suc b ≡ suc (place-number χ + b)
     shift = omega arith
 
-block-context : {k : Kind} (χ : Ctx k) (n : Node k) → Block (places (plug χ n) top) (place-number χ) (places n χ)
+pub block-context : {k : Kind} (χ : Ctx k) (n : Node k) → Block (places (plug χ n) top) (place-number χ) (places n χ)
 unfolding plug place-number places _+n_
 block-context top n = λ j x e. subst (λ i. nth (places n top) i ≡ some x) (sym (zero-add j)) e
 block-context (in-or χ l r) n = deeper χ (or (l +n cons n r)) (in-or χ l r) n (counts l) (block-context χ (or (l +n cons n r))) (behind (at χ (or (l +n cons n r))) (places-all (l +n cons n r) (in-or χ) nil) (places n (in-or χ l r)) (counts l) (block-all (in-or χ) n r l nil))

@@ -33,7 +33,7 @@ use Rattle.accept.proofs.PlaceLaws.{place-whole}
 use Rattle.accept.proofs.Accepted.{accepts-iff}
 
 -- the goal that is rewritten stands in the configuration
-transition-whole : {P : Program} {N r : ℕ} {pl : Place} {k : Kind} {χ : Ctx k} {n n′ : Node k} {N′ : ℕ} → Transition P N r pl k χ n n′ N′ → plug χ n ≡ whole pl
+pub transition-whole : {P : Program} {N r : ℕ} {pl : Place} {k : Kind} {χ : Ctx k} {n n′ : Node k} {N′ : ℕ} → Transition P N r pl k χ n n′ N′ → plug χ n ≡ whole pl
 unfolding plug
 transition-whole (Tr.constraint-atom χ vs σ l r c) = refl
 transition-whole (Tr.program-atom χ p xs b e) = refl

@@ -1,11 +1,15 @@
 -- "it or anything inside it", said by contexts: the node m in its context χ′ is the node n in its context χ, or stands in it.
 -- Places by number (Accepts: Inside) are counted; here nothing is.
+use mathlib.Core.Path.{_≡_}
 use mathlib.Core.List.{List, [], _∷_, _++_}
 use Prim.Native.Nat.{ℕ}
-use Rattle.constraint.specs.Constraint.{Store}
-use Rattle.akl.specs.Syntax.{Op, Stmt}
-use Rattle.akl.specs.Configuration.{Kind, goal, member, guarded, Node, or, and, stmt, choice-box, guard, Nodes, cons, _+n_, Ctx, in-or, in-and, in-choice, in-guard, env}
+use Rattle.constraint.specs.Constraint.{Store, Quiet}
+use Rattle.akl.specs.Syntax.{Op, Stmt, Program}
+use Rattle.akl.specs.Configuration.{Kind, goal, member, guarded, Node, or, and, stmt, choice-box, guard, Nodes, cons, _+n_, Ctx, in-or, in-and, in-choice, in-guard, plug, env, Config}
 use Rattle.akl.specs.Places.{Place, at}
+use Rattle.akl.specs.Stability.{locals}
+use Rattle.akl.specs.Step.{splitting}
+use Rattle.theory.specs.Transition.{Transition}
 
 pub data Within {k : Kind} (χ : Ctx k) (n : Node k) : (j : Kind) → Ctx j → Node j → Type 0 where
   itself : Within χ n k χ n
@@ -16,6 +20,12 @@ pub data Within {k : Kind} (χ : Ctx k) (n : Node k) : (j : Kind) → Ctx j → 
 
 abbrev pub WithinPlace : {k : Kind} → Ctx k → Node k → Place → Type 0
 WithinPlace χ n (at χ′ m) = Within χ n _ χ′ m
+
+-- Stable, said by contexts: no determinate transition of a goal of the configuration rewrites it or anything inside it, and for
+-- each and-box at or inside it what the stores down to that box add to the goal's environment is quiet for it.
+pub record StableHere (P : Program) (c : Config) {k : Kind} (χ : Ctx k) (n : Node k) : Type 0 where
+  pub still : (r : ℕ) (pl : Place) (j : Kind) (χ′ : Ctx j) (m m′ : Node j) (N′ : ℕ) → plug χ′ m ≡ c .root → ¬ (r ≡ splitting) → Transition P (c .next) r pl j χ′ m m′ N′ → ¬ Within χ n j χ′ m
+  pub quiet : (χ′ : Ctx goal) (vs : List ℕ) (σ θ : Store) (ms : Nodes member) → Within χ n goal χ′ (and vs σ ms) → env χ′ ++ σ ≡ env χ ++ θ → Quiet (locals n) (env χ) θ
 
 -- For an and-box: what is stored around it and in it; its locals. Other places have none.
 abbrev pub stores-at : Place → List Store

@@ -19,6 +19,7 @@ use Rattle.runs.specs.Outcomes.{outcome, outcomes}
 use Rattle.runs.specs.Shown.{Fair}
 use Rattle.runs.specs.RunHolds.{CallAt, RunHolds}
 use Rattle.theory.proofs.Reflect.{formed-iff}
+use Rattle.theory.proofs.OwnVariables.{solution-own, query-own}
 use Rattle.texts.proofs.Reading.{read-program-passes, read-query-fits}
 use Rattle.runs.proofs.Runs.{calls-chain, run-formed, run-steps, run-sound, run-answers-sound, run-exact, run-answers-exact}
 use Rattle.runs.proofs.SameText.{fair, text-shown, text-solutions, same-text-iff}
@@ -56,6 +57,7 @@ run-holds limit rules text P query c rp rq rs ks = record {
     steps-on = moves-cut limit P js k ls c;
   });
   sound = run-sound limit P good query fits c rs ks;
+  own-variables = λ ρ ρ′ a. (solution-own limit P (query .variables) (end ks) (f ks) ρ ρ′ a, query-own P query fits ρ ρ′ a);
   answers-sound = run-answers-sound limit P good query fits c rs ks;
   exact = run-exact limit P good query fits c rs ks;
   answers-exact = run-answers-exact limit P good query fits c rs ks;

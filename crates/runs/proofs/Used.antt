@@ -4,7 +4,7 @@ use mathlib.Core.Path.{_≡_, refl, ap, sym, _∙_, subst}
 use mathlib.Core.Logic.{_↔_, _⊎_, inl, inr}
 use mathlib.Core.List.{List, [], _∷_, _++_, map}
 use mathlib.Core.Option.{some}
-use Prim.Native.Nat.{ℕ, zero, suc}
+use Prim.Native.Nat.{ℕ, zero, suc, _<_}
 use native.Mathlib.Omega.{arith}
 use Rattle.constraint.specs.Tree.{Tree, node, fnil, fcons}
 use Rattle.constraint.specs.Constraint.{Asg, Off, ctrue, capp}
@@ -83,6 +83,15 @@ used-answers ρ =
     let h = held ks₀ .answers-exact (tt, (tt, (tt, (tt, (tt, (tt, (tt, (tt, (tt, (tt, tt)))))))))) tt ρ in
     (λ s. elim (h .1 s) [ inl a ↦ inl (a .1 0 (λ i. i) ∙ a .2 .0) | inr r ↦ elim r [ inl b ↦ inr (b .1 0 (λ i. i) ∙ b .2 .0) | inr e ↦ absurd e ] ],
      λ s. h .0 (elim s [ inl e ↦ inl (ρ, (λ x i. refl), (e, tt)) | inr e ↦ inr (inl (ρ, (λ x i. refl), (e, tt))) ]))
+
+-- They are the same with other trees for other variables.
+pub used-own : (ρ ρ′ : Asg) → ρ 0 ≡ ρ′ 0 → QuerySolution P₀ q₀ ρ ↔ QuerySolution P₀ q₀ ρ′
+unfolding everything P₀ q₀ c₀ program-of query-of config-of
+used-own ρ ρ′ e = held [] .own-variables ρ ρ′ first .1
+  where
+    first : (x : ℕ) → x < 1 → ρ x ≡ ρ′ x
+    first zero l = e
+    first (suc x) l = absurd (omega arith)
 
 -- What each call comes to.
 pub used-outcomes : outcomes 2048 P₀ (q₀ .variables) c₀ (ks₀ ++ (ask-answer 1 7 ∷ ask-answer 2 7 ∷ ask-answer 3 9 ∷ ask-answer 0 9 ∷ ask-state ∷ [])) ≡ refusal 9 ∷ refusal 13 ∷ refusal 16 ∷ refusal 18 ∷ accepted 1 0 ∷ refusal 8 ∷ accepted 4 11 ∷ stands open-state ∷ accepted 5 0 ∷ refusal 17 ∷ shown (bytes "K = new") ∷ refusal 16 ∷ refusal 16 ∷ stands final ∷ []

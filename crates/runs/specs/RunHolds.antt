@@ -15,7 +15,7 @@ use Rattle.akl.specs.Reader.{Query}
 use Rattle.akl.specs.Configuration.{Config}
 use Rattle.akl.specs.Answers.{Answer, answers, answer-text, state}
 use Rattle.akl.specs.WellFormed.{well-formed}
-use Rattle.theory.specs.Meaning.{Solution, QuerySolution}
+use Rattle.theory.specs.Meaning.{Solution, QuerySolution, SameBelow}
 use Rattle.runs.specs.Calls.{Call, Move, after-call, call-moves, after-calls, calls-moves, Chain, NoPruning, AnswerIn, AllowedBy, Ended, Allows}
 use Rattle.runs.specs.Outcomes.{Outcome, outcome, outcomes}
 use Rattle.runs.specs.CallHolds.{StepHolds, CallHolds}
@@ -40,6 +40,8 @@ pub record RunHolds (limit : ℕ) (P : Program) (query : Query) (c : Config) (ks
   pub each-call : (js : List Call) (k : Call) (ls : List Call) → ks ≡ js ++ (k ∷ ls) → CallAt limit P query c ks js k ls
   -- the configuration has no solution that the query has not
   pub sound : (ρ : Asg) → Solution P (size (query .variables)) (after-calls limit P c ks) ρ → QuerySolution P query ρ
+  -- solutions are trees for the query's variables: those of other variables do not matter
+  pub own-variables : (ρ ρ′ : Asg) → SameBelow (size (query .variables)) ρ ρ′ → (Solution P (size (query .variables)) (after-calls limit P c ks) ρ ↔ Solution P (size (query .variables)) (after-calls limit P c ks) ρ′) × (QuerySolution P query ρ ↔ QuerySolution P query ρ′)
   -- whatever an answer allows satisfies the query
   pub answers-sound : (a : Answer) → AnswerIn a (answers (after-calls limit P c ks .root)) → (ρ : Asg) → Allows (size (query .variables)) a ρ → QuerySolution P query ρ
   -- without 7 and 8 the configuration has exactly the query's solutions

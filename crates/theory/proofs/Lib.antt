@@ -15,3 +15,4 @@ pub mod Reflect
 pub mod InContext
 pub mod StepKeeps
 pub mod StepMeaning
+pub mod OwnVariables

@@ -98,3 +98,7 @@ Solution P q c ρ = HoldsWith (c .root) (Atoms P) q ρ nothing
 -- of a query
 abbrev pub QuerySolution : Program → Query → Asg → Type 0
 QuerySolution P q ρ = Holds (q .statement) (Atoms P) ρ []
+
+-- The two have the same trees for the query's variables: they are the same as solutions.
+abbrev pub SameBelow : ℕ → Asg → Asg → Type 0
+SameBelow q ρ ρ′ = (x : ℕ) → x < q → ρ x ≡ ρ′ x
