@@ -9,10 +9,11 @@ use Rattle.constraint.specs.Constraint.{Store}
 use Rattle.akl.specs.Base.{nth, size}
 use Rattle.akl.specs.Syntax.{Op, Stmt}
 use Rattle.akl.specs.Configuration.{Kind, goal, member, guarded, Node, or, and, stmt, choice-box, guard, Nodes, nil, cons, _+n_, one, Ctx, top, in-or, in-and, in-choice, in-guard, plug, Config}
-use Rattle.akl.specs.Places.{Place, at, places, places-all, place, count, counts, place-number}
-use Rattle.accept.specs.Accepts.{Inside}
+use Rattle.akl.specs.Places.{Place, at, places, places-all, place, count, counts, place-number, holder-number}
+use Rattle.akl.specs.Step.{box-of}
+use Rattle.accept.specs.Accepts.{Inside, Holds-box}
 use Rattle.accept.specs.Within.{Within, itself, in-an-or, in-an-and, in-a-choice, in-a-guard, WithinPlace}
-use Rattle.accept.proofs.PlaceLaws.{no-place, nth-split, append-one, counts-append, size-places, place-numbered, block-context, place-of}
+use Rattle.accept.proofs.PlaceLaws.{no-place, nth-split, append-one, counts-append, size-places, place-whole, place-numbered, block-context, place-of}
 
 -- ---------------------------------------------------------------------------------------------
 -- All places of a node are within it.
@@ -113,3 +114,8 @@ inside-iff c χ n p χ′ m e h = (to-it, from-it)
 -- The same for a node that stands in the configuration.
 pub number-inside-iff : (c : Config) {k : Kind} (χ : Ctx k) (n : Node k) {j : Kind} (χ′ : Ctx j) (m : Node j) → plug χ n ≡ c .root → plug χ′ m ≡ c .root → Inside χ n (place-number χ′) ↔ Within χ n j χ′ m
 number-inside-iff c χ n χ′ m e h = inside-iff c χ n (place-number χ′) χ′ m e (place-of χ′ m c h)
+
+-- "a stable goal that is or contains the and-box": the box that holds the choice-box at the place.
+pub contains-iff : (c : Config) {k : Kind} (χ : Ctx k) (n : Node k) (p : ℕ) (χ′ : Ctx goal) (vs : List ℕ) (σ : Store) (l r : Nodes member) (m : Node member) → plug χ n ≡ c .root → place c p ≡ some (at (in-and χ′ vs σ l r) m) → Holds-box (at χ n) (box-of (at (in-and χ′ vs σ l r) m)) ↔ Within χ n goal χ′ (and vs σ (l +n cons m r))
+unfolding holder-number plug
+contains-iff c χ n p χ′ vs σ l r m e h = number-inside-iff c χ n χ′ (and vs σ (l +n cons m r)) e (place-whole c p (at (in-and χ′ vs σ l r) m) h)

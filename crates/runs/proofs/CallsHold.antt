@@ -185,7 +185,7 @@ module _ (xs : List Name) (g : Node goal) (n m : ℕ) where
           record { long = (λ e. l, λ e. refl); given = (λ e. absurd (refusal-not (answer-text xs a) 17 e), λ h. absurd (omega arith)) }
       go false p =
           let l : size (answer-text xs a) ≤ m = nltb→le m (size (answer-text xs a)) (not-T (ltb m (size (answer-text xs a))) .1 (λ h. subst T p h)) in
-          record { long = (λ e. absurd (refusal-not (answer-text xs a) 17 (sym e)), λ h. absurd (omega arith)); given = (λ e. l, λ e. refl) }
+          record { given = (λ e. l, λ e. refl); long = (λ e. absurd (refusal-not (answer-text xs a) 17 (sym e)), λ h. absurd (omega arith)) }
 
   -- which answer it is that is shown
   shown-is : (o : Option Answer) (t : List ℕ) → answer-outcome (found o) ≡ shown t → (a : Answer) × (o ≡ some a) × (t ≡ answer-text xs a)

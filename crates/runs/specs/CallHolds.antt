@@ -53,8 +53,8 @@ pub record TextHolds (limit : ℕ) (P : Program) (xs : List Name) (d : Config) (
 
 -- The answer a stands at the number asked for: 17 exactly when its text is longer than the slice, else its text.
 pub record TextGiven (xs : List Name) (a : Answer) (m : ℕ) (o : Outcome) : Type 0 where
-  pub long : (o ≡ refusal 17) ↔ (m < size (answer-text xs a))
   pub given : (o ≡ shown (answer-text xs a)) ↔ (size (answer-text xs a) ≤ m)
+  pub long : (o ≡ refusal 17) ↔ (m < size (answer-text xs a))
 
 -- A question for the answer of number n, in a slice of length m.
 pub record AnswerHolds (P : Program) (query : Query) (d : Config) (n m : ℕ) (o : Outcome) : Type 0 where
