@@ -45,7 +45,9 @@ module _ {k₀ : Kind} (χ₀ : Ctx k₀) (n₀ : Node k₀) where
     all-within (guard g b) χ w = every-cons (at χ (guard g b)) (places g (in-guard χ b)) w (all-within g (in-guard χ b) (in-a-guard χ b g w))
 
     -- of nodes side by side, box being what holds them
-    each-within : {k : Kind} (ns : Nodes k) (around : Nodes k → Nodes k → Ctx k) (j : Kind) (χ : Ctx j) (box : Nodes k → Node j) → ((l r : Nodes k) (m : Node k) → Within χ₀ n₀ j χ (box (l +n cons m r)) → Within χ₀ n₀ k (around l r) m) → (l : Nodes k) → Within χ₀ n₀ j χ (box (l +n ns)) → Every (places-all ns around l)
+    each-within : {k : Kind} (ns : Nodes k) (around : Nodes k → Nodes k → Ctx k) (j : Kind) (χ : Ctx j) (box : Nodes k → Node j) →
+        ((l r : Nodes k) (m : Node k) → Within χ₀ n₀ j χ (box (l +n cons m r)) → Within χ₀ n₀ k (around l r) m) → (l : Nodes k) →
+        Within χ₀ n₀ j χ (box (l +n ns)) → Every (places-all ns around l)
     each-within nil around j χ box h l w = every-none
     each-within (cons n ns) around j χ box h l w = every-append (places n (around l ns)) (places-all ns around (l +n one n)) (all-within n (around l ns) (h l ns n w)) (each-within ns around j χ box h (l +n one n) (subst (λ z. Within χ₀ n₀ j χ (box z)) (sym (append-one l n ns)) w))
 
@@ -64,7 +66,8 @@ abbrev Range : {k : Kind} → Ctx k → Node k → {j : Kind} → Ctx j → Node
 Range χ n χ′ m = (place-number χ ≤ place-number χ′) × (place-number χ′ + count m ≤ place-number χ + count n)
 
 module _ {k : Kind} (χ : Ctx k) (n : Node k) where
-  between : {i : Kind} (l r : Nodes i) (m : Node i) (p : ℕ) → (place-number χ ≤ p) × (p + suc (counts (l +n cons m r)) ≤ place-number χ + count n) → (place-number χ ≤ suc (p + counts l)) × (suc (p + counts l) + count m ≤ place-number χ + count n)
+  between : {i : Kind} (l r : Nodes i) (m : Node i) (p : ℕ) → (place-number χ ≤ p) × (p + suc (counts (l +n cons m r)) ≤ place-number χ + count n) →
+      (place-number χ ≤ suc (p + counts l)) × (suc (p + counts l) + count m ≤ place-number χ + count n)
   unfolding count
   between l r m p w = let e = counts-append l (cons m r) in (omega arith, omega arith)
 
@@ -83,12 +86,14 @@ nth-has (x ∷ l) zero h = (x, refl)
 nth-has (x ∷ l) (suc i) h = nth-has l i (omega arith)
 
 -- the i-th place of the node, in the whole
-place-in : {k : Kind} (χ : Ctx k) (n : Node k) (c : Config) (i : ℕ) (pl : Place) → plug χ n ≡ c .root → nth (places n χ) i ≡ some pl → place c (place-number χ + i) ≡ some pl
+place-in : {k : Kind} (χ : Ctx k) (n : Node k) (c : Config) (i : ℕ) (pl : Place) → plug χ n ≡ c .root → nth (places n χ) i ≡ some pl →
+    place c (place-number χ + i) ≡ some pl
 unfolding place
 place-in χ n c i pl e h = subst (λ g. nth (places g top) (place-number χ + i) ≡ some pl) e (block-context χ n i pl h)
 
 -- a number inside is that of one of the node's places
-pub numbered-in : {k : Kind} (χ : Ctx k) (n : Node k) (c : Config) (p : ℕ) (pl : Place) → plug χ n ≡ c .root → place c p ≡ some pl → Inside χ n p → (i : ℕ) × (nth (places n χ) i ≡ some pl)
+pub numbered-in : {k : Kind} (χ : Ctx k) (n : Node k) (c : Config) (p : ℕ) (pl : Place) → plug χ n ≡ c .root → place c p ≡ some pl → Inside χ n p →
+    (i : ℕ) × (nth (places n χ) i ≡ some pl)
 numbered-in χ n c p pl e h w =
     let i = p - place-number χ in
     let a : place-number χ + i ≡ p = omega arith in
@@ -98,7 +103,8 @@ numbered-in χ n c p pl e h w =
     (i, subst (λ z. nth (places n χ) i ≡ some z) same (x .1))
 
 -- A place of the configuration is inside the goal by its number exactly when it is by its context.
-pub inside-iff : (c : Config) {k : Kind} (χ : Ctx k) (n : Node k) (p : ℕ) {j : Kind} (χ′ : Ctx j) (m : Node j) → plug χ n ≡ c .root → place c p ≡ some (at χ′ m) → Inside χ n p ↔ Within χ n j χ′ m
+pub inside-iff : (c : Config) {k : Kind} (χ : Ctx k) (n : Node k) (p : ℕ) {j : Kind} (χ′ : Ctx j) (m : Node j) → plug χ n ≡ c .root →
+    place c p ≡ some (at χ′ m) → Inside χ n p ↔ Within χ n j χ′ m
 inside-iff c χ n p χ′ m e h = (to-it, from-it)
   where
     to-it : Inside χ n p → Within χ n _ χ′ m
@@ -112,10 +118,13 @@ inside-iff c χ n p χ′ m e h = (to-it, from-it)
         (omega arith, omega arith)
 
 -- The same for a node that stands in the configuration.
-pub number-inside-iff : (c : Config) {k : Kind} (χ : Ctx k) (n : Node k) {j : Kind} (χ′ : Ctx j) (m : Node j) → plug χ n ≡ c .root → plug χ′ m ≡ c .root → Inside χ n (place-number χ′) ↔ Within χ n j χ′ m
+pub number-inside-iff : (c : Config) {k : Kind} (χ : Ctx k) (n : Node k) {j : Kind} (χ′ : Ctx j) (m : Node j) → plug χ n ≡ c .root →
+    plug χ′ m ≡ c .root → Inside χ n (place-number χ′) ↔ Within χ n j χ′ m
 number-inside-iff c χ n χ′ m e h = inside-iff c χ n (place-number χ′) χ′ m e (place-of χ′ m c h)
 
 -- "a stable goal that is or contains the and-box": the box that holds the choice-box at the place.
-pub contains-iff : (c : Config) {k : Kind} (χ : Ctx k) (n : Node k) (p : ℕ) (χ′ : Ctx goal) (vs : List ℕ) (σ : Store) (l r : Nodes member) (m : Node member) → plug χ n ≡ c .root → place c p ≡ some (at (in-and χ′ vs σ l r) m) → Holds-box (at χ n) (box-of (at (in-and χ′ vs σ l r) m)) ↔ Within χ n goal χ′ (and vs σ (l +n cons m r))
+pub contains-iff : (c : Config) {k : Kind} (χ : Ctx k) (n : Node k) (p : ℕ) (χ′ : Ctx goal) (vs : List ℕ) (σ : Store) (l r : Nodes member) (m : Node member) →
+    plug χ n ≡ c .root → place c p ≡ some (at (in-and χ′ vs σ l r) m) →
+    Holds-box (at χ n) (box-of (at (in-and χ′ vs σ l r) m)) ↔ Within χ n goal χ′ (and vs σ (l +n cons m r))
 unfolding holder-number plug
 contains-iff c χ n p χ′ vs σ l r m e h = number-inside-iff c χ n χ′ (and vs σ (l +n cons m r)) e (place-whole c p (at (in-and χ′ vs σ l r) m) h)

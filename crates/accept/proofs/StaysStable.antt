@@ -41,7 +41,9 @@ goes-on χ n (in-a-guard χ′ b m w) = goes-on χ n w
 
 -- τ is what is added: it is compatible with the environment and does not mention the goal's locals, which are not around it. Then
 -- each and-box at or inside the goal still has a solution with its environment and τ: rule 9 does not apply to it.
-pub stable-stays : (limit : ℕ) (P : Program) (xs : List Name) (c : Config) {k : Kind} (χ : Ctx k) (n : Node k) (τ : Store) → Formed limit P xs c → plug χ n ≡ c .root → Stable P c (at χ n) → Disjoint (locals n) (varsAll τ) → Satisfiable (env χ ++ τ) → (χ′ : Ctx goal) (vs : List ℕ) (σ : Store) (ms : Nodes member) → Within χ n goal χ′ (and vs σ ms) → Satisfiable ((env χ′ ++ σ) ++ τ)
+pub stable-stays : (limit : ℕ) (P : Program) (xs : List Name) (c : Config) {k : Kind} (χ : Ctx k) (n : Node k) (τ : Store) → Formed limit P xs c →
+    plug χ n ≡ c .root → Stable P c (at χ n) → Disjoint (locals n) (varsAll τ) → Satisfiable (env χ ++ τ) →
+    (χ′ : Ctx goal) (vs : List ℕ) (σ : Store) (ms : Nodes member) → Within χ n goal χ′ (and vs σ ms) → Satisfiable ((env χ′ ++ σ) ++ τ)
 stable-stays limit P xs c χ n τ f e s dt h χ′ vs σ ms w =
     let g = goes-on χ n w in
     let same : env χ′ ++ σ ≡ env χ ++ (g .0 ++ σ) = ap (λ (z : Store). z ++ σ) (g .1) ∙ append-assoc (env χ) (g .0) σ in

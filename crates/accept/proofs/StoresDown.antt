@@ -11,13 +11,13 @@ use Rattle.akl.specs.Syntax.{Program}
 use Rattle.akl.specs.Configuration.{Kind, goal, member, guarded, Node, or, and, stmt, choice-box, guard, Nodes, nil, cons, _+n_, one, Ctx, top, in-or, in-and, in-choice, in-guard, plug, env, Config}
 use Rattle.akl.specs.Places.{Place, at, places, places-all, place, place-number}
 use Rattle.akl.specs.Stability.{locals, locals-all, stores-down, stores-down-all}
-use Rattle.akl.specs.Step.{splitting}
+use Rattle.akl.specs.Step.{splitting, box-of}
 use Rattle.theory.specs.Transition.{Transition}
-use Rattle.accept.specs.Accepts.{Inside, Undisturbed, Each, Stable}
-use Rattle.accept.specs.Within.{Within, itself, in-an-or, in-an-and, in-a-choice, in-a-guard, WithinPlace, StableHere, stores-at, locals-at}
+use Rattle.accept.specs.Accepts.{Inside, Undisturbed, Each, Stable, Holds-box, StableAround}
+use Rattle.accept.specs.Within.{Within, itself, in-an-or, in-an-and, in-a-choice, in-a-guard, WithinPlace, StableHere, StableBox, stores-at, locals-at}
 use Rattle.accept.proofs.EffectSound.{whole}
 use Rattle.accept.proofs.PlaceLaws.{no-place, place-whole, place-of}
-use Rattle.accept.proofs.InsideLaws.{all-within, numbered-in, number-inside-iff}
+use Rattle.accept.proofs.InsideLaws.{all-within, numbered-in, number-inside-iff, contains-iff}
 use Rattle.accept.proofs.StepTheorem.{transition-whole}
 
 -- ---------------------------------------------------------------------------------------------
@@ -52,7 +52,8 @@ mutual
   down-at (choice-box op gs) χ e θ h = down-all gs (in-choice χ op) e θ (λ l r. h) nil
   down-at (guard g b) χ e θ h = down-at g (in-guard χ b) e θ h
 
-  down-all : {k : Kind} (ns : Nodes k) (around : Nodes k → Nodes k → Ctx k) (e θ : Store) → ((l r : Nodes k) → env (around l r) ≡ e ++ θ) → (l : Nodes k) → map (λ τ. e ++ τ) (stores-down-all ns θ) ≡ flat stores-at (places-all ns around l)
+  down-all : {k : Kind} (ns : Nodes k) (around : Nodes k → Nodes k → Ctx k) (e θ : Store) → ((l r : Nodes k) → env (around l r) ≡ e ++ θ) →
+      (l : Nodes k) → map (λ τ. e ++ τ) (stores-down-all ns θ) ≡ flat stores-at (places-all ns around l)
   down-all nil around e θ h l = refl
   down-all (cons n ns) around e θ h l = map-append (λ τ. e ++ τ) (stores-down n θ) (stores-down-all ns θ) ∙ (λ i. down-at n (around l ns) e θ (h l ns) i ++ down-all ns around e θ h (l +n one n) i) ∙ sym (flat-append stores-at (places n (around l ns)) (places-all ns around (l +n one n)))
 
@@ -126,7 +127,8 @@ store-right : (a b : List Store) (τ : Store) → StoreIn τ b → StoreIn τ (a
 store-right [] b τ i = i
 store-right (x ∷ a) b τ i = inr (store-right a b τ i)
 
-box-flat : (ps : List Place) (i : ℕ) (χ : Ctx goal) (vs : List ℕ) (σ : Store) (ms : Nodes member) → nth ps i ≡ some (at χ (and vs σ ms)) → StoreIn (env χ ++ σ) (flat stores-at ps)
+box-flat : (ps : List Place) (i : ℕ) (χ : Ctx goal) (vs : List ℕ) (σ : Store) (ms : Nodes member) → nth ps i ≡ some (at χ (and vs σ ms)) →
+    StoreIn (env χ ++ σ) (flat stores-at ps)
 unfolding flat nth
 box-flat [] i χ vs σ ms e = absurd (no-place (at χ (and vs σ ms)) e)
 box-flat (p ∷ ps) zero χ vs σ ms e = subst (λ z. StoreIn (env χ ++ σ) (stores-at z ++ flat stores-at ps)) (sym (Option·some-injective p (at χ (and vs σ ms)) e)) (inl refl)
@@ -151,7 +153,8 @@ module _ (P : Program) (c : Config) {k : Kind} (χ : Ctx k) (n : Node k) (e : pl
       Q : Store → Type 0
       Q = Quiet (locals n) (env χ)
 
-      to-it : Each Q (stores-down n []) → (χ′ : Ctx goal) (vs : List ℕ) (σ θ : Store) (ms : Nodes member) → Within χ n goal χ′ (and vs σ ms) → env χ′ ++ σ ≡ env χ ++ θ → Q θ
+      to-it : Each Q (stores-down n []) → (χ′ : Ctx goal) (vs : List ℕ) (σ θ : Store) (ms : Nodes member) → Within χ n goal χ′ (and vs σ ms) →
+          env χ′ ++ σ ≡ env χ ++ θ → Q θ
       to-it h χ′ vs σ θ ms w s =
           let stands = within-whole χ n w ∙ e in
           let i = numbered-in χ n c (place-number χ′) (at χ′ (and vs σ ms)) e (place-of χ′ (and vs σ ms) c stands) (number-inside-iff c χ n χ′ (and vs σ ms) e stands .1 w) in
@@ -159,7 +162,8 @@ module _ (P : Program) (c : Config) {k : Kind} (χ : Ctx k) (n : Node k) (e : pl
           let v = in-map (λ τ. env χ ++ τ) (stores-down n []) (env χ′ ++ σ) (subst (StoreIn (env χ′ ++ σ)) (sym (stores-are n χ)) f) in
           each-in Q (stores-down n []) θ h (subst (λ z. StoreIn z (stores-down n [])) (cancel (env χ) (v .0) θ (sym (v .2) ∙ s)) (v .1))
 
-      from-it : ((χ′ : Ctx goal) (vs : List ℕ) (σ θ : Store) (ms : Nodes member) → Within χ n goal χ′ (and vs σ ms) → env χ′ ++ σ ≡ env χ ++ θ → Q θ) → Each Q (stores-down n [])
+      from-it : ((χ′ : Ctx goal) (vs : List ℕ) (σ θ : Store) (ms : Nodes member) → Within χ n goal χ′ (and vs σ ms) → env χ′ ++ σ ≡ env χ ++ θ → Q θ) →
+          Each Q (stores-down n [])
       from-it h = in-each Q (stores-down n []) (λ θ i.
           let b = flat-box (places n χ) (env χ ++ θ) (subst (StoreIn (env χ ++ θ)) (stores-are n χ) (map-in (λ τ. env χ ++ τ) (stores-down n []) θ i)) in
           h (b .context) (b .locals-of) (b .store) θ (b .members) (all-within χ n n χ itself (b .index) (at (b .context) (and (b .locals-of) (b .store) (b .members))) (b .is-there)) (sym (b .same)))
@@ -182,3 +186,18 @@ module _ (P : Program) (c : Config) {k : Kind} (χ : Ctx k) (n : Node k) (e : pl
 
       from-it : StableHere P c χ n → Stable P c (at χ n)
       from-it s = ((λ p r pl j χ′ m m′ N′ g u t i. let h = transition-whole t ∙ place-whole c p pl g in s .still r pl j χ′ m m′ N′ h u t (number-inside-iff c χ n χ′ m e h .0 i)), quiet-stores .1 (s .quiet))
+
+-- Rule 12's argument, for a choice-box that stands in an and-box.
+module _ (P : Program) (c : Config) (p a : ℕ) (χ′ : Ctx goal) (vs : List ℕ) (σ : Store) (l r : Nodes member) (m : Node member) (h : place c p ≡ some (at (in-and χ′ vs σ l r) m)) where
+  pub stable-around-iff : StableAround P c (at (in-and χ′ vs σ l r) m) a ↔ StableBox P c a χ′ (and vs σ (l +n cons m r))
+  stable-around-iff = (λ s. to-it (s .around) (s .is-place) (s .contains) (s .stable), from-it)
+    where
+      to-it : (pl : Place) → place c a ≡ some pl → Holds-box pl (box-of (at (in-and χ′ vs σ l r) m)) → Stable P c pl → StableBox P c a χ′ (and vs σ (l +n cons m r))
+      to-it (at χ n) e i s =
+          let w = place-whole c a (at χ n) e in
+          record { kind = _; context = χ; node = n; is-place = e; contains = contains-iff c χ n p χ′ vs σ l r m w h .0 i; stable = stable-here-iff P c χ n w .0 s }
+
+      from-it : StableBox P c a χ′ (and vs σ (l +n cons m r)) → StableAround P c (at (in-and χ′ vs σ l r) m) a
+      from-it s =
+          let w = place-whole c a (at (s .context) (s .node)) (s .is-place) in
+          record { around = at (s .context) (s .node); is-place = s .is-place; contains = contains-iff c (s .context) (s .node) p χ′ vs σ l r m w h .1 (s .contains); stable = stable-here-iff P c (s .context) (s .node) w .1 (s .stable) }

@@ -62,14 +62,16 @@ mutual
   none-in (choice-box op gs) χ f = inr (not-there χ (choice-box op gs) f, none-in-all gs (in-choice χ op) (λ l r e. e) nil)
   none-in (guard g b) χ f = inr (not-there χ (guard g b) f, none-in g (in-guard χ b) (λ e. e))
 
-  none-in-all : {k : Kind} (ns : Nodes k) (around : Nodes k → Nodes k → Ctx k) → ((l r : Nodes k) → ¬ OrsAround (around l r)) → (l : Nodes k) → Gathers (places-all ns around l) []
+  none-in-all : {k : Kind} (ns : Nodes k) (around : Nodes k → Nodes k → Ctx k) → ((l r : Nodes k) → ¬ OrsAround (around l r)) → (l : Nodes k) →
+      Gathers (places-all ns around l) []
   none-in-all nil around f l = refl
   none-in-all (cons n ns) around f l = gathers-append (places n (around l ns)) (places-all ns around (l +n one n)) [] [] (none-in n (around l ns) (f l ns)) (none-in-all ns around f (l +n one n))
 
 -- ---------------------------------------------------------------------------------------------
 -- Where nothing else is, they are those of the walk.
 
-box-gathers : (χ : Ctx goal) (vs : List ℕ) (σ : Store) (ms : Nodes member) (ps : List Place) → OrsAround χ → Gathers ps [] → Gathers (at χ (and vs σ ms) ∷ ps) (solved-box vs σ ms)
+box-gathers : (χ : Ctx goal) (vs : List ℕ) (σ : Store) (ms : Nodes member) (ps : List Place) → OrsAround χ → Gathers ps [] →
+    Gathers (at χ (and vs σ ms) ∷ ps) (solved-box vs σ ms)
 box-gathers χ vs σ (cons m ms) ps f h = inr ((λ a k. k .1), h)
 box-gathers χ vs σ nil ps f h = go (satisfiable? σ) refl
   where
@@ -87,7 +89,8 @@ mutual
   stand-in (choice-box op gs) χ f = inr ((λ a h. h), none-in-all gs (in-choice χ op) (λ l r e. e) nil)
   stand-in (guard g b) χ f = inr ((λ a h. h), none-in g (in-guard χ b) (λ e. e))
 
-  stand-in-all : {k : Kind} (ns : Nodes k) (around : Nodes k → Nodes k → Ctx k) → ((l r : Nodes k) → OrsAround (around l r)) → (l : Nodes k) → Gathers (places-all ns around l) (answers-all ns)
+  stand-in-all : {k : Kind} (ns : Nodes k) (around : Nodes k → Nodes k → Ctx k) → ((l r : Nodes k) → OrsAround (around l r)) → (l : Nodes k) →
+      Gathers (places-all ns around l) (answers-all ns)
   stand-in-all nil around f l = refl
   stand-in-all (cons n ns) around f l = gathers-append (places n (around l ns)) (places-all ns around (l +n one n)) (answers n) (answers-all ns) (stand-in n (around l ns) (f l ns)) (stand-in-all ns around f (l +n one n))
 

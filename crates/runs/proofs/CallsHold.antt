@@ -20,7 +20,7 @@ use Rattle.theory.specs.Meaning.{QuerySolution}
 use Rattle.runs.specs.Calls.{Call, one-step, steps-text, ask-answer, ask-state, unfit-call, Move, move, stepped, texted, after-call, step-moves, steps-moves, text-moves, call-moves, after-calls, calls-moves, AnswerIn, Allows}
 use Rattle.runs.specs.Outcomes.{Outcome, refusal, accepted, shown, stands, step-outcome, text-outcome, answer-outcome, outcome, outcomes}
 use Rattle.runs.specs.Shown.{Fair, FitsText, shown-terms, ReadsAs}
-use Rattle.runs.specs.CallHolds.{Counts, Next, TextHolds, TextGiven, AnswerHolds, Told, CallHolds}
+use Rattle.runs.specs.CallHolds.{Counts, Next, TextHolds, TextGiven, AnswerHolds, StepTold, TextTold, Told, CallHolds}
 use Rattle.runs.proofs.Runs.{call-chain}
 use Rattle.runs.proofs.SameText.{text-solutions, text-reads, reads-once}
 
@@ -107,7 +107,8 @@ module _ (limit : ℕ) (P : Program) (xs : List Name) where
   steps-count [] c n = omega arith
   steps-count (s ∷ ss) c n = go (step limit P c s) (λ d. steps-count ss d (suc n))
     where
-      go : (r : Result Config) → ((d : Config) → suc n + size (steps-moves limit P d ss) ≡ steps limit P d (suc n) ss .accepted) → n + size {A = Move} (elim r as (λ x. List Move) [ refused k ↦ [] | ok d ↦ move c s d ∷ steps-moves limit P d ss ]) ≡ (elim r as (λ x. Run) [ refused k ↦ record { accepted = n; refusal = k; config = c } | ok d ↦ steps limit P d (suc n) ss ]) .accepted
+      go : (r : Result Config) → ((d : Config) → suc n + size (steps-moves limit P d ss) ≡ steps limit P d (suc n) ss .accepted) →
+          n + size {A = Move} (elim r as (λ x. List Move) [ refused k ↦ [] | ok d ↦ move c s d ∷ steps-moves limit P d ss ]) ≡ (elim r as (λ x. Run) [ refused k ↦ record { accepted = n; refusal = k; config = c } | ok d ↦ steps limit P d (suc n) ss ]) .accepted
       go (refused k) ih = omega arith
       go (ok d) ih = omega (arith, ih d)
 
@@ -134,7 +135,7 @@ module _ (limit : ℕ) (P : Program) (xs : List Name) where
 -- ---------------------------------------------------------------------------------------------
 -- Answers.
 
-nth-answer : (l : List Answer) (n : ℕ) (a : Answer) → nth l n ≡ some a → AnswerIn a l
+pub nth-answer : (l : List Answer) (n : ℕ) (a : Answer) → nth l n ≡ some a → AnswerIn a l
 unfolding nth
 nth-answer [] n a e = absurd (nope e)
   where
@@ -218,6 +219,11 @@ missing-iff xs g (suc i) m = go (nth (answers g) i) refl
     go none p = (λ e. inr (let w = nth-beyond (answers g) i p in omega arith), λ h. answer-found xs g (suc i) m none p)
     go (some a) p = (λ e. absurd (not-sixteen xs g (suc i) m a (sym (answer-found xs g (suc i) m (some a) p) ∙ e)), λ h. absurd (elim h [ inl e ↦ omega arith | inr l ↦ (let w = nth-below (answers g) i a p in omega arith) ]))
 
+-- the text of the answer of number i + 1, where it fits the slice
+pub answer-handed : (xs : List Name) (g : Node goal) (i m : ℕ) (a : Answer) → nth (answers g) i ≡ some a → size (answer-text xs a) ≤ m →
+    answer-outcome (answer xs g (suc i) m) ≡ shown (answer-text xs a)
+answer-handed xs g i m a e l = answer-found xs g (suc i) m (some a) e ∙ text-given xs g (suc i) m a .given .1 l
+
 module _ (P : Program) (query : Query) (d : Config) (fair-of : (a : Answer) → AnswerIn a (answers (d .root)) → Fair a) (sound : (a : Answer) → AnswerIn a (answers (d .root)) → (ρ : Asg) → Allows (size (query .variables)) a ρ → QuerySolution P query ρ) where
   abbrev ys : List Name
   ys = query .variables
@@ -239,9 +245,9 @@ module _ (P : Program) (query : Query) (d : Config) (fair-of : (a : Answer) → 
           let w = shown-is ys (d .root) n m (numbered ys (d .root) n) t (sym (answer-found ys (d .root) n m (numbered ys (d .root) n) refl) ∙ e) in
           (w .0, numbered-in ys (d .root) n (w .0) (w .1), w .2)
 
-  call-told : (limit : ℕ) (k : Call) → Told limit P query d k
-  call-told limit (one-step s) = ((λ n e. ap step-outcome e), λ f e. (ap step-outcome e, ap (step-moves d s) e))
-  call-told limit (steps-text t) = ((λ n e. ap (text-outcome limit P d) e), λ ss e. text-holds limit P ys d t ss e)
+  call-told : (limit : ℕ) (k : Call) → Told limit P query d k (outcome limit P ys d k)
+  call-told limit (one-step s) = record { not-taken = λ n e. ap step-outcome e; taken = λ f e. (ap step-outcome e, ap (step-moves d s) e) }
+  call-told limit (steps-text t) = record { not-read = λ n e. ap (text-outcome limit P d) e; read = λ ss e. text-holds limit P ys d t ss e }
   call-told limit (ask-answer n m) = answer-holds n m
   call-told limit ask-state = refl
   call-told limit (unfit-call u) = refl

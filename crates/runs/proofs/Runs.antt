@@ -42,7 +42,9 @@ module _ (limit : ℕ) (P : Program) where
   steps-chain [] c n = refl
   steps-chain (s ∷ ss) c n = go (step limit P c s) refl (λ d. steps-chain ss d (suc n))
     where
-      go : (r : Result Config) → step limit P c s ≡ r → ((d : Config) → Chain limit P d (steps-moves limit P d ss) (steps limit P d (suc n) ss .config)) → Chain limit P c (elim r as (λ x. List Move) [ refused k ↦ [] | ok d ↦ move c s d ∷ steps-moves limit P d ss ]) ((elim r as (λ x. Run) [ refused k ↦ record { accepted = n; refusal = k; config = c } | ok d ↦ steps limit P d (suc n) ss ]) .config)
+      go : (r : Result Config) → step limit P c s ≡ r →
+          ((d : Config) → Chain limit P d (steps-moves limit P d ss) (steps limit P d (suc n) ss .config)) →
+          Chain limit P c (elim r as (λ x. List Move) [ refused k ↦ [] | ok d ↦ move c s d ∷ steps-moves limit P d ss ]) ((elim r as (λ x. Run) [ refused k ↦ record { accepted = n; refusal = k; config = c } | ok d ↦ steps limit P d (suc n) ss ]) .config)
       go (refused k) e ih = refl
       go (ok d) e ih = (refl, e, ih d)
 

@@ -127,7 +127,7 @@ unfolded = after-calls 2048 P₀ c₀ before₀
 
 first-held : TextHolds 2048 P₀ (q₀ .variables) unfolded (bytes "5 2 0\n1 5 0\n1 7 0\n12 2 1\n6 99 0\n14 1 0\n") (line 5 2 0 ∷ line 1 5 0 ∷ line 1 7 0 ∷ line 12 2 1 ∷ line 6 99 0 ∷ line 14 1 0 ∷ [])
 unfolding everything before₀ behind₀ ks₀
-first-held = held ks₀ .each-call before₀ first-text behind₀ refl .holds .told .1 (line 5 2 0 ∷ line 1 5 0 ∷ line 1 7 0 ∷ line 12 2 1 ∷ line 6 99 0 ∷ line 14 1 0 ∷ []) refl
+first-held = held ks₀ .each-call before₀ first-text behind₀ refl .holds .told .read (line 5 2 0 ∷ line 1 5 0 ∷ line 1 7 0 ∷ line 12 2 1 ∷ line 6 99 0 ∷ line 14 1 0 ∷ []) refl
 
 first-told : (size (first-held .done) ≡ 4) × (first-held .next ≡ 11)
 unfolding everything P₀ q₀ c₀ before₀ behind₀ ks₀ program-of query-of config-of after-calls
@@ -157,6 +157,19 @@ used-chain = held ks₀ .chain .2 .2 .2 .2 .1
 pub used-refused : call-moves 2048 P₀ c₀ (one-step (line 9 1 0)) ≡ []
 unfolding everything P₀ q₀ c₀ program-of query-of config-of after-calls
 used-refused = held (one-step (line 9 1 0) ∷ []) .each-call [] (one-step (line 9 1 0)) [] refl .holds .counts
+
+-- A single step that is accepted, one that is refused, and a text that is no steps text.
+pub used-single : outcome 2048 P₀ (q₀ .variables) c₀ (one-step (line 2 2 0)) ≡ accepted 1 0
+unfolding everything P₀ q₀ c₀ program-of query-of config-of after-calls ran₀
+used-single = held (one-step (line 2 2 0) ∷ []) .each-call [] (one-step (line 2 2 0)) [] refl .holds .told .taken (ran₀ (line 2 2 0 ∷ [])) refl .0
+
+pub used-not-taken : outcome 2048 P₀ (q₀ .variables) c₀ (one-step (line 9 1 0)) ≡ refusal 13
+unfolding everything P₀ q₀ c₀ program-of query-of config-of after-calls
+used-not-taken = held (one-step (line 9 1 0) ∷ []) .each-call [] (one-step (line 9 1 0)) [] refl .holds .told .not-taken 13 refl
+
+pub used-not-read : outcome 2048 P₀ (q₀ .variables) c₀ (steps-text (bytes "1")) ≡ refusal 18
+unfolding everything P₀ q₀ c₀ program-of query-of config-of after-calls
+used-not-read = held (steps-text (bytes "1") ∷ []) .each-call [] (steps-text (bytes "1")) [] refl .holds .told .not-read 18 refl
 
 -- Questions at the end: the text of the second answer where it fits its slice, 17 where it does not, 16 beyond the last.
 asked : (k : Call) → CallHolds 2048 P₀ q₀ (after-calls 2048 P₀ c₀ ks₀) k
@@ -200,3 +213,10 @@ ls₀ = steps-text (bytes "2 2 0\n5 2 0\n1 8 0\n1 5 0\n12 2 1\n14 1 0\n6 2 0\n6 
 pub used-apart : (ρ : Asg) → Allows 1 second-answer ρ ↔ Allows 1 second-answer ρ
 unfolding everything P₀ q₀ c₀ before₀ behind₀ ks₀ ls₀ program-of query-of config-of after-calls second-answer
 used-apart = held ks₀ .texts-apart ls₀ second-answer second-answer (inr (inl refl)) (inr (inl refl)) .0 refl
+
+-- A solution of the query fits a text that an answer call hands out.
+pub used-handed : (ρ : Asg) → ρ 0 ≡ kept → (n : ℕ) × (t : List ℕ) × (outcome 2048 P₀ (q₀ .variables) (after-calls 2048 P₀ c₀ ks₀) (ask-answer n (size t)) ≡ shown t)
+unfolding everything P₀ q₀ c₀ before₀ behind₀ ks₀ program-of query-of config-of after-calls calls-moves steps-moves
+used-handed ρ e =
+    let w = held ks₀ .texts-exact (tt, (tt, (tt, (tt, (tt, (tt, (tt, (tt, (tt, (tt, tt)))))))))) tt ρ (used-answers ρ .1 (inl e)) in
+    (w .number, w .text, w .handed (size (w .text)) (omega arith))

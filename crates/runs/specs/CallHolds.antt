@@ -63,18 +63,29 @@ pub record AnswerHolds (P : Program) (query : Query) (d : Config) (n m : ℕ) (o
   pub numbered : (i : ℕ) (a : Answer) → n ≡ suc i → nth (answers (d .root)) i ≡ some a → TextGiven (query .variables) a m o
   -- the text reads as terms, in one way, and whatever trees fit them satisfy the query
   pub reads : (t : List ℕ) → o ≡ shown t → (ts : Terms) × ReadsAs (query .variables) t ts
-  pub satisfies : (t : List ℕ) → o ≡ shown t → (ts : Terms) → ReadsAs (query .variables) t ts → (ρ : Asg) → FitsText (size (query .variables)) ts ρ → QuerySolution P query ρ
+  pub satisfies : (t : List ℕ) → o ≡ shown t → (ts : Terms) → ReadsAs (query .variables) t ts → (ρ : Asg) → FitsText (size (query .variables)) ts ρ →
+      QuerySolution P query ρ
 
--- What each kind of call comes to.
-abbrev pub Told : ℕ → Program → Query → Config → Call → Type 0
-Told limit P query d (one-step s) = ((n : ℕ) → step limit P d s ≡ refused n → outcome limit P (query .variables) d (one-step s) ≡ refusal n) × ((e : Config) → step limit P d s ≡ ok e → (outcome limit P (query .variables) d (one-step s) ≡ accepted 1 0) × (call-moves limit P d (one-step s) ≡ move d s e ∷ []))
-Told limit P query d (steps-text t) = ((n : ℕ) → read-steps t ≡ refused n → outcome limit P (query .variables) d (steps-text t) ≡ refusal n) × ((ss : List Step) → read-steps t ≡ ok ss → TextHolds limit P (query .variables) d t ss)
-Told limit P query d (ask-answer n m) = AnswerHolds P query d n m (outcome limit P (query .variables) d (ask-answer n m))
-Told limit P query d ask-state = outcome limit P (query .variables) d ask-state ≡ stands (state (d .root))
-Told limit P query d (unfit-call u) = outcome limit P (query .variables) d (unfit-call u) ≡ refusal (unfit-number u)
+-- A step: its refusal, or one step accepted and done.
+pub record StepTold (limit : ℕ) (P : Program) (d : Config) (s : Step) (o : Outcome) : Type 0 where
+  pub not-taken : (n : ℕ) → step limit P d s ≡ refused n → o ≡ refusal n
+  pub taken : (e : Config) → step limit P d s ≡ ok e → (o ≡ accepted 1 0) × (call-moves limit P d (one-step s) ≡ move d s e ∷ [])
+
+-- A steps text: refused whole with 1 or 18, or its steps.
+pub record TextTold (limit : ℕ) (P : Program) (xs : List Name) (d : Config) (t : List ℕ) (o : Outcome) : Type 0 where
+  pub not-read : (n : ℕ) → read-steps t ≡ refused n → o ≡ refusal n
+  pub read : (ss : List Step) → read-steps t ≡ ok ss → TextHolds limit P xs d t ss
+
+-- What each kind of call comes to, o being its outcome.
+abbrev pub Told : ℕ → Program → Query → Config → Call → Outcome → Type 0
+Told limit P query d (one-step s) o = StepTold limit P d s o
+Told limit P query d (steps-text t) o = TextTold limit P (query .variables) d t o
+Told limit P query d (ask-answer n m) o = AnswerHolds P query d n m o
+Told limit P query d ask-state o = o ≡ stands (state (d .root))
+Told limit P query d (unfit-call u) o = o ≡ refusal (unfit-number u)
 
 pub record CallHolds (limit : ℕ) (P : Program) (query : Query) (d : Config) (k : Call) : Type 0 where
   -- the accepted steps lead on from d; without any, the configuration is as before
   pub chain : Chain limit P d (call-moves limit P d k) (after-call limit P d k)
   pub counts : Counts (outcome limit P (query .variables) d k) (call-moves limit P d k)
-  pub told : Told limit P query d k
+  pub told : Told limit P query d k (outcome limit P (query .variables) d k)

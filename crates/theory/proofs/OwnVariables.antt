@@ -22,13 +22,16 @@ use Rattle.theory.proofs.Scopes.{ok-apart}
 same-sym : (q : ℕ) (ρ ρ′ : Asg) → SameBelow q ρ ρ′ → SameBelow q ρ′ ρ
 same-sym q ρ ρ′ a x l = sym (a x l)
 
-one-way : (limit : ℕ) (P : Program) (xs : List Name) (c : Config) → Formed limit P xs c → (ρ ρ′ : Asg) → SameBelow (size xs) ρ ρ′ → Solution P (size xs) c ρ → Solution P (size xs) c ρ′
+one-way : (limit : ℕ) (P : Program) (xs : List Name) (c : Config) → Formed limit P xs c → (ρ ρ′ : Asg) → SameBelow (size xs) ρ ρ′ →
+    Solution P (size xs) c ρ → Solution P (size xs) c ρ′
 one-way limit P xs c f ρ ρ′ a h = goal-on (Atoms P) (size xs) (c .root) (c .next) [] (f .scopes) nothing (nothing-fits (c .root) []) ρ ρ′ (λ x i. elim i [ inl e ↦ absurd e | inr l ↦ a x l ]) h
 
-pub solution-own : (limit : ℕ) (P : Program) (xs : List Name) (c : Config) → Formed limit P xs c → (ρ ρ′ : Asg) → SameBelow (size xs) ρ ρ′ → Solution P (size xs) c ρ ↔ Solution P (size xs) c ρ′
+pub solution-own : (limit : ℕ) (P : Program) (xs : List Name) (c : Config) → Formed limit P xs c → (ρ ρ′ : Asg) → SameBelow (size xs) ρ ρ′ →
+    Solution P (size xs) c ρ ↔ Solution P (size xs) c ρ′
 solution-own limit P xs c f ρ ρ′ a = (one-way limit P xs c f ρ ρ′ a, one-way limit P xs c f ρ′ ρ (same-sym (size xs) ρ ρ′ a))
 
-pub query-own : (P : Program) (query : Query) → QueryFits P query → (ρ ρ′ : Asg) → SameBelow (size (query .variables)) ρ ρ′ → QuerySolution P query ρ ↔ QuerySolution P query ρ′
+pub query-own : (P : Program) (query : Query) → QueryFits P query → (ρ ρ′ : Asg) → SameBelow (size (query .variables)) ρ ρ′ →
+    QuerySolution P query ρ ↔ QuerySolution P query ρ′
 query-own P query f ρ ρ′ a = (holds-on (Atoms P) ρ ρ′ (query .statement) [] (λ x i. a x (f .own x i)), holds-on (Atoms P) ρ′ ρ (query .statement) [] (λ x i. sym (a x (f .own x i))))
 
 -- ---------------------------------------------------------------------------------------------
