@@ -80,9 +80,10 @@ new = node (bytes "new") fnil
 pub used-answers : (ρ : Asg) → QuerySolution P₀ q₀ ρ ↔ ((ρ 0 ≡ kept) ⊎ (ρ 0 ≡ new))
 unfolding everything P₀ q₀ c₀ before₀ behind₀ ks₀ program-of query-of config-of after-calls calls-moves steps-moves kept new
 used-answers ρ =
-    let h = held ks₀ .answers-exact (tt, (tt, (tt, (tt, (tt, (tt, (tt, (tt, (tt, (tt, tt)))))))))) tt ρ in
-    (λ s. elim (h .1 s) [ inl a ↦ inl (a .1 0 (λ i. i) ∙ a .2 .0) | inr r ↦ elim r [ inl b ↦ inr (b .1 0 (λ i. i) ∙ b .2 .0) | inr e ↦ absurd e ] ],
-     λ s. h .0 (elim s [ inl e ↦ inl (ρ, (λ x i. refl), (e, tt)) | inr e ↦ inr (inl (ρ, (λ x i. refl), (e, tt))) ]))
+    let h = held ks₀ .answers-exact (tt, (tt, (tt, (tt, (tt, (tt, (tt, (tt, (tt, (tt, tt)))))))))) tt ρ in (
+      λ s. elim (h .1 s) [ inl a ↦ inl (a .1 0 (λ i. i) ∙ a .2 .0) | inr r ↦ elim r [ inl b ↦ inr (b .1 0 (λ i. i) ∙ b .2 .0) | inr e ↦ absurd e ] ],
+      λ s. h .0 (elim s [ inl e ↦ inl (ρ, (λ x i. refl), (e, tt)) | inr e ↦ inr (inl (ρ, (λ x i. refl), (e, tt))) ]),
+    )
 
 -- They are the same with other trees for other variables.
 pub used-own : (ρ ρ′ : Asg) → ρ 0 ≡ ρ′ 0 → QuerySolution P₀ q₀ ρ ↔ QuerySolution P₀ q₀ ρ′
