@@ -2,22 +2,23 @@
 use mathlib.Core.Path.{_≡_, refl, ap, sym, _∙_, subst}
 use mathlib.Core.Logic.{_↔_, _⊎_, inl, inr}
 use mathlib.Core.List.{List, [], _∷_, _++_}
-use mathlib.Core.Bool.{Bool, true, false}
+use mathlib.Core.Bool.{Bool, true, false, _&&_}
 use mathlib.Core.Option.{Option, some, none, Option·some-injective}
 use Prim.Native.Nat.{ℕ, zero, suc}
 use lib.Dec.{T}
 use native.Mathlib.Omega.{arith}
 use Rattle.constraint.specs.Constraint.{Store, Satisfiable}
 use Rattle.constraint.specs.Solve.{satisfiable?}
+use Rattle.constraint.proofs.Lists.{and-T}
 use Rattle.constraint.proofs.Decision.{satisfiable-iff}
 use Rattle.akl.specs.Base.{nth, if}
 use Rattle.akl.specs.Configuration.{Kind, goal, member, Node, or, and, stmt, choice-box, guard, Nodes, nil, cons, _+n_, one, Ctx, top, in-or, in-and, in-choice, in-guard, plug, Config}
 use Rattle.akl.specs.Places.{Place, at, places, places-all, place, place-number}
-use Rattle.akl.specs.Answers.{Answer, solved-box, answers, answers-all}
+use Rattle.akl.specs.Answers.{Answer, solved-box, answers, answers-all, failed, final, open-state, is-answer, all-answers, state}
 use Rattle.accept.proofs.EffectSound.{whole}
 use Rattle.accept.proofs.PlaceLaws.{place-whole, place-of}
 use Rattle.runs.specs.Calls.{AnswerIn}
-use Rattle.runs.specs.AnswerPlaces.{OrsAround, Solved, IsAnswer, Gathers, StandsAs}
+use Rattle.runs.specs.AnswerPlaces.{OrsAround, Solved, IsAnswer, Gathers, StandsAs, AnswerBox, EachAnswer}
 
 -- ---------------------------------------------------------------------------------------------
 -- Lists that are gathered.
@@ -138,3 +139,38 @@ answer-iff c a = (to-it, from-it)
 
     from-it : StandsAs (c .root) a → AnswerIn a (answers (c .root))
     from-it s = at-gathered (places (c .root) top) (answers (c .root)) a (place-number (s .context)) (at (s .context) (and (a .0) (a .1) nil)) (answers-stand (c .root)) (place-of (s .context) (and (a .0) (a .1) nil) c (s .whole-of)) (s .ors, tt, s .satisfiable, refl)
+
+-- ---------------------------------------------------------------------------------------------
+-- "The state is `failed` when the top or-box is empty, `final` when every member is an answer, else `open`."
+
+box-iff : (n : Node goal) → T (is-answer n) ↔ AnswerBox n
+box-iff (or ns) = (λ h. h, λ h. h)
+box-iff (and vs σ nil) = (λ h. (tt, satisfiable-iff σ .0 h), λ h. satisfiable-iff σ .1 (h .1))
+box-iff (and vs σ (cons m ms)) = (λ h. absurd h, λ h. absurd (h .0))
+
+each-iff : (ns : Nodes goal) → T (all-answers ns) ↔ EachAnswer ns
+unfolding all-answers
+each-iff nil = (λ h. h, λ h. h)
+each-iff (cons n ns) =
+    let a = and-T (is-answer n) (all-answers ns) in
+    (λ h. (box-iff n .0 (a .0 h .0), each-iff ns .0 (a .0 h .1)), λ h. a .1 (box-iff n .1 (h .0), each-iff ns .1 (h .1)))
+
+pub state-failed : state (or nil) ≡ failed
+unfolding state
+state-failed = refl
+
+pub state-final : (n : Node goal) (ns : Nodes goal) → EachAnswer (cons n ns) → state (or (cons n ns)) ≡ final
+unfolding state
+state-final n ns h = go (all-answers (cons n ns)) refl
+  where
+    go : (b : Bool) → all-answers (cons n ns) ≡ b → if b final open-state ≡ final
+    go true e = refl
+    go false e = absurd (subst T e (each-iff (cons n ns) .1 h))
+
+pub state-open : (n : Node goal) (ns : Nodes goal) → ¬ EachAnswer (cons n ns) → state (or (cons n ns)) ≡ open-state
+unfolding state
+state-open n ns h = go (all-answers (cons n ns)) refl
+  where
+    go : (b : Bool) → all-answers (cons n ns) ≡ b → if b final open-state ≡ open-state
+    go true e = absurd (h (each-iff (cons n ns) .0 (subst T (sym e) tt)))
+    go false e = refl

@@ -41,3 +41,12 @@ pub record StandsAs (g : Node goal) (a : Answer) : Type 0 where
   pub ors : OrsAround context
   pub whole-of : plug context (and (a .0) (a .1) nil) ≡ g
   pub satisfiable : Satisfiable (a .1)
+
+-- "every member is an answer": the members of the top or-box
+abbrev pub AnswerBox : Node goal → Type 0
+AnswerBox (or ns) = ⊥
+AnswerBox (and vs σ ms) = Solved ms × Satisfiable σ
+
+abbrev pub EachAnswer : Nodes goal → Type 0
+EachAnswer nil = Unit {0}
+EachAnswer (cons n ns) = AnswerBox n × EachAnswer ns
