@@ -164,13 +164,13 @@ nth-beyond (b ∷ l) zero e = absurd (nope e)
 nth-beyond (b ∷ l) (suc n) e = let w = nth-beyond l n e in omega arith
 
 module _ (xs : List Name) (g : Node goal) (n m : ℕ) where
-  abbrev fitted : Answer → Result (List ℕ)
+  abbrev pub fitted : Answer → Result (List ℕ)
   fitted a = if (ltb m (size (answer-text xs a))) (refused 17) (ok (answer-text xs a))
 
-  abbrev found : Option Answer → Result (List ℕ)
+  abbrev pub found : Option Answer → Result (List ℕ)
   found o = elim o as (λ z. Result (List ℕ)) [ none ↦ refused 16 | some a ↦ fitted a ]
 
-  answer-found : (o : Option Answer) → numbered xs g n ≡ o → answer-outcome (answer xs g n m) ≡ answer-outcome (found o)
+  pub answer-found : (o : Option Answer) → numbered xs g n ≡ o → answer-outcome (answer xs g n m) ≡ answer-outcome (found o)
   unfolding answer
   answer-found o e = ap (λ z. answer-outcome (found z)) e
 

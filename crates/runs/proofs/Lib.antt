@@ -7,6 +7,7 @@ pub mod SameTerms
 pub mod Printed
 pub mod SameText
 pub mod CallsHold
+pub mod RecordPrinted
 pub mod Demand3
 pub mod Used
 pub mod UsedFailed
