@@ -35,7 +35,7 @@ fn before_body(codes: &[u8], at: usize) -> Opening
     if name == 8 {
         return Opening::Odd;
     }
-    let p = read_phrases::arguments_end(codes, at + 1);
+    let p = read_ends::arguments_end(codes, at + 1);
     match p {
         Phrase::To { rest, count } => {
             if 8 < count {

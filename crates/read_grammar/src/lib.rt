@@ -28,7 +28,7 @@ pub fn definition_end(codes: &[u8], stack: &mut [u8], at: usize) -> End
     if name == 8 {
         return End::None;
     }
-    let p = read_phrases::arguments_end(codes, at + 1);
+    let p = read_ends::arguments_end(codes, at + 1);
     match p {
         Phrase::To {
             rest,

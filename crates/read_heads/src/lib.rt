@@ -32,7 +32,7 @@ fn head_at(codes: &[u8], stack: &mut [u8], at: usize) -> Head
     match e {
         End::To(rest) => {
             let name = read_phrases::number_at(codes, at);
-            let p = read_phrases::arguments_end(codes, at + 1);
+            let p = read_ends::arguments_end(codes, at + 1);
             match p {
                 Phrase::To { rest: _rest, count } => {
                     if 8 < count {

@@ -204,7 +204,7 @@ fn bracket(
     requires { ⌜ CanRead (triples (now codes)) (shorts (now binds)) (shorts (now saves)) (shorts (now order)) (triples (now heads)) (words (now out)) at k q level ⌝ }
     ensures { λ r. ⌜ Answer a-bracket query (triples (now (codes .entry))) (shorts (now (binds .entry))) (shorts (now (saves .entry))) (shorts (now (order .entry))) (triples (now (heads .entry))) (words (now (out .entry))) at k q level depth (shorts (now (binds .exit))) (shorts (now (saves .exit))) (shorts (now (order .exit))) (words (now (out .exit))) r ⌝ }
 {
-    let p = read_phrases::hidden_end(codes, at);
+    let p = read_ends::hidden_end(codes, at);
     match p {
         Phrase::To { rest, count } => {
             if !read_slots::slots(out, k) {
@@ -429,7 +429,7 @@ fn clause(
     requires { ⌜ CanClause (triples (now codes)) (shorts (now binds)) (shorts (now saves)) (shorts (now order)) (triples (now heads)) (words (now out)) at k q level kind ⌝ }
     ensures { λ r. ⌜ Answer (a-clause (opOf kind)) query (triples (now (codes .entry))) (shorts (now (binds .entry))) (shorts (now (saves .entry))) (shorts (now (order .entry))) (triples (now (heads .entry))) (words (now (out .entry))) at k q level depth (shorts (now (binds .exit))) (shorts (now (saves .exit))) (shorts (now (order .exit))) (words (now (out .exit))) r ⌝ }
 {
-    let p = read_phrases::hidden_end(codes, at);
+    let p = read_ends::hidden_end(codes, at);
     match p {
         Phrase::To { rest, count } => {
             if !read_slots::open_clause(out, k, count) {

@@ -3,7 +3,7 @@
 ghost use mathlib.Core.Path.{_≡_};
 ghost use Rattle.mem_numbers.specs.Numbers.{triples};
 ghost use Rattle.read_phrases.specs.Codes.{kindAt, numberAt};
-ghost use Rattle.read_phrases.specs.Phrases.{VariablesTo, ArgumentsTo, HiddenTo};
+ghost use Rattle.read_phrases.specs.Phrases.{VariablesTo};
 
 // A list of `count` names and the position behind it, or there is none.
 pub enum Phrase {
@@ -82,52 +82,5 @@ pub fn variables_end(codes: &[u8], at: usize) -> Phrase
             return Phrase::To { rest: i, count: m };
         }
         i += 1;
-    }
-}
-
-// Arguments in brackets, or none at all.
-pub fn arguments_end(codes: &[u8], at: usize) -> Phrase
-    ensures { λ r. ⌜ ArgumentsTo (triples (now (codes .entry))) at r ⌝ }
-{
-    if kind_at(codes, at) != 3 {
-        return Phrase::To { rest: at, count: 0 };
-    }
-    let p = variables_end(codes, at + 1);
-    match p {
-        Phrase::To { rest, count } => {
-            if kind_at(codes, rest) != 4 {
-                return Phrase::Odd;
-            }
-            Phrase::To {
-                rest: rest + 1,
-                count,
-            }
-        }
-        Phrase::Odd => Phrase::Odd,
-    }
-}
-
-// A hidden list and its colon, or none at all: a variable that `=` does not follow begins one.
-pub fn hidden_end(codes: &[u8], at: usize) -> Phrase
-    ensures { λ r. ⌜ HiddenTo (triples (now (codes .entry))) at r ⌝ }
-{
-    if kind_at(codes, at) != 2 {
-        return Phrase::To { rest: at, count: 0 };
-    }
-    if kind_at(codes, at + 1) == 9 {
-        return Phrase::To { rest: at, count: 0 };
-    }
-    let p = variables_end(codes, at);
-    match p {
-        Phrase::To { rest, count } => {
-            if kind_at(codes, rest) != 7 {
-                return Phrase::Odd;
-            }
-            Phrase::To {
-                rest: rest + 1,
-                count,
-            }
-        }
-        Phrase::Odd => Phrase::Odd,
     }
 }

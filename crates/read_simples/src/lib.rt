@@ -25,7 +25,7 @@ fn equation_at(codes: &[u8], at: usize) -> Simple
         return Simple::Odd;
     }
     let label = read_phrases::number_at(codes, i);
-    let p = read_phrases::arguments_end(codes, i + 1);
+    let p = read_ends::arguments_end(codes, i + 1);
     match p {
         Phrase::To { rest, count } => Simple::Atom {
             kind: Constraint::Made {
@@ -46,7 +46,7 @@ fn named_at(codes: &[u8], at: usize) -> Simple
     ensures { λ r. ⌜ SimpleAt (triples (now (codes .entry))) at r ⌝ }
 {
     let name = read_phrases::number_at(codes, at);
-    let p = read_phrases::arguments_end(codes, at + 1);
+    let p = read_ends::arguments_end(codes, at + 1);
     match p {
         Phrase::To { rest, count } => {
             if name == 4 {

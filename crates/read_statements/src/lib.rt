@@ -35,7 +35,7 @@ fn turn(codes: &[u8], stack: &mut [u8], h: usize, at: usize) -> Onward
             return Onward::Odd;
         }
         stack[top] = 2;
-        let p = read_phrases::hidden_end(codes, at + 1);
+        let p = read_ends::hidden_end(codes, at + 1);
         match p {
             Phrase::To {
                 rest,
@@ -115,7 +115,7 @@ fn step(codes: &[u8], stack: &mut [u8], h: usize, at: usize) -> Onward
                 return Onward::Full;
             }
             stack[h] = 0;
-            let p = read_phrases::hidden_end(codes, inside);
+            let p = read_ends::hidden_end(codes, inside);
             match p {
                 Phrase::To {
                     rest,

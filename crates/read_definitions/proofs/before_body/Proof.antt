@@ -11,7 +11,7 @@ use Rattle.read_definitions.proofs.before_body.Statement.{statement}
 use Rattle.read_definitions.proofs.before_body.Tie as tie
 use Rattle.read_definitions.proofs.before_body.Reads as reads
 use Rattle.read_definitions.proofs.before_body.Lts as lts
-use Rattle.read_phrases.proofs.arguments_end.Reads as arguments-end-reads
+use Rattle.read_ends.proofs.arguments_end.Reads as arguments-end-reads
 use Rattle.read_phrases.proofs.kind_at.Reads as kind-at-reads
 use Rattle.read_phrases.proofs.number_at.Reads as number-at-reads
 

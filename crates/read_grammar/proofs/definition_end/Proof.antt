@@ -13,7 +13,7 @@ use Rattle.read_grammar.proofs.definition_end.Tie as tie
 use Rattle.read_grammar.proofs.definition_end.Reads as reads
 use Rattle.read_grammar.proofs.definition_end.Lts as lts
 use Rattle.read_statements.proofs.statement_end.Reads as statement-end-reads
-use Rattle.read_phrases.proofs.arguments_end.Reads as arguments-end-reads
+use Rattle.read_ends.proofs.arguments_end.Reads as arguments-end-reads
 use Rattle.read_phrases.proofs.kind_at.Reads as kind-at-reads
 use Rattle.read_phrases.proofs.number_at.Reads as number-at-reads
 

@@ -12,7 +12,7 @@ use Rattle.read_heads.proofs.head_at.Tie as tie
 use Rattle.read_heads.proofs.head_at.Reads as reads
 use Rattle.read_heads.proofs.head_at.Lts as lts
 use Rattle.read_grammar.proofs.definition_end.Reads as definition-end-reads
-use Rattle.read_phrases.proofs.arguments_end.Reads as arguments-end-reads
+use Rattle.read_ends.proofs.arguments_end.Reads as arguments-end-reads
 use Rattle.read_phrases.proofs.number_at.Reads as number-at-reads
 
 definition-end-requires : tie.Need-definition-end-requires

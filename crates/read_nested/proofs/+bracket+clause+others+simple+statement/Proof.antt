@@ -54,7 +54,7 @@ use Rattle.read_atoms.proofs.constraint.Reads as constraint-reads
 use Rattle.read_atoms.proofs.program.Reads as program-reads
 use Rattle.read_emits.proofs.emit.Reads as emit-reads
 use Rattle.read_emits.proofs.ends.Reads as ends-reads
-use Rattle.read_phrases.proofs.hidden_end.Reads as hidden-end-reads
+use Rattle.read_ends.proofs.hidden_end.Reads as hidden-end-reads
 use Rattle.read_phrases.proofs.kind_at.Reads as kind-at-reads
 use Rattle.read_simples.proofs.simple_at.Reads as simple-at-reads
 use Rattle.read_fills.proofs.fill_choice.Reads as fill-choice-reads

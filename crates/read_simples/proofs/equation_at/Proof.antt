@@ -10,7 +10,7 @@ use Rattle.read_simples.proofs.equation_at.Statement.{statement}
 use Rattle.read_simples.proofs.equation_at.Tie as tie
 use Rattle.read_simples.proofs.equation_at.Reads as reads
 use Rattle.read_simples.proofs.equation_at.Lts as lts
-use Rattle.read_phrases.proofs.arguments_end.Reads as arguments-end-reads
+use Rattle.read_ends.proofs.arguments_end.Reads as arguments-end-reads
 use Rattle.read_phrases.proofs.kind_at.Reads as kind-at-reads
 use Rattle.read_phrases.proofs.number_at.Reads as number-at-reads
 

@@ -10,7 +10,7 @@ use Rattle.read_simples.proofs.named_at.Statement.{statement}
 use Rattle.read_simples.proofs.named_at.Tie as tie
 use Rattle.read_simples.proofs.named_at.Reads as reads
 use Rattle.read_simples.proofs.named_at.Lts as lts
-use Rattle.read_phrases.proofs.arguments_end.Reads as arguments-end-reads
+use Rattle.read_ends.proofs.arguments_end.Reads as arguments-end-reads
 use Rattle.read_phrases.proofs.number_at.Reads as number-at-reads
 
 number-at-requires : tie.Need-number-at-requires

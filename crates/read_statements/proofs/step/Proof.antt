@@ -11,7 +11,7 @@ use Rattle.read_statements.proofs.step.Tie as tie
 use Rattle.read_statements.proofs.step.Reads as reads
 use Rattle.read_statements.proofs.step.Lts as lts
 use Rattle.read_statements.proofs.follow.Reads as follow-reads
-use Rattle.read_phrases.proofs.hidden_end.Reads as hidden-end-reads
+use Rattle.read_ends.proofs.hidden_end.Reads as hidden-end-reads
 use Rattle.read_simples.proofs.simple_at.Reads as simple-at-reads
 
 simple-at-requires : tie.Need-simple-at-requires

@@ -11,7 +11,7 @@ use Rattle.read_statements.proofs.turn.Statement.{statement}
 use Rattle.read_statements.proofs.turn.Tie as tie
 use Rattle.read_statements.proofs.turn.Reads as reads
 use Rattle.read_statements.proofs.turn.Lts as lts
-use Rattle.read_phrases.proofs.hidden_end.Reads as hidden-end-reads
+use Rattle.read_ends.proofs.hidden_end.Reads as hidden-end-reads
 use Rattle.read_phrases.proofs.kind_at.Reads as kind-at-reads
 
 kind-at-requires : tie.Need-kind-at-requires

@@ -2,16 +2,16 @@ use mathlib.Core.Path.{sym, _∙_, subst}
 use Prim.Native.Nat.{_+_}
 use native.Mathlib.Omega.{arith}
 use Rattle.mem_numbers.specs.Numbers.{triples, length-triples}
 use Rattle.read_phrases.specs.Codes.{kind-inside}
 use Rattle.read_phrases.specs.Phrases.{VariablesTo}
 use Rattle.read_phrases.proofs.Reading.{hidden-without, hidden-equals, hidden-odd, hidden-uncolon, hidden-colon}
 use borrow.Author.Needs.{needs}
-use Rattle.read_phrases.proofs.hidden_end.Statement.{statement}
-use Rattle.read_phrases.proofs.hidden_end.Tie as tie
-use Rattle.read_phrases.proofs.hidden_end.Reads as reads
-use Rattle.read_phrases.proofs.hidden_end.Lts as lts
+use Rattle.read_ends.proofs.hidden_end.Statement.{statement}
+use Rattle.read_ends.proofs.hidden_end.Tie as tie
+use Rattle.read_ends.proofs.hidden_end.Reads as reads
+use Rattle.read_ends.proofs.hidden_end.Lts as lts
 use Rattle.read_phrases.proofs.kind_at.Reads as kind-at-reads
 use Rattle.read_phrases.proofs.variables_end.Reads as variables-end-reads
 
 kind-at-requires : tie.Need-kind-at-requires
 kind-at-requires c κs = search needs
