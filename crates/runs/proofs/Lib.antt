@@ -11,3 +11,4 @@ pub mod RecordPrinted
 pub mod Demand3
 pub mod Used
 pub mod UsedFailed
+pub mod NamedAnswers

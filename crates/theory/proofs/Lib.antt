@@ -16,3 +16,4 @@ pub mod InContext
 pub mod StepKeeps
 pub mod StepMeaning
 pub mod OwnVariables
+pub mod NamedTrees

@@ -3,3 +3,4 @@ pub mod Scope
 pub mod Entails
 pub mod Transition
 pub mod Formed
+pub mod Named

@@ -54,13 +54,13 @@ enum-told-2 : tie.Need-enum-told-2
 enum-told-2 c = search needs
 
 same-length : tie.Need-same-length
-same-length c = search needs
+same-length c = c .before .before .follow .kept .1 .0
 
 returns-2 : tie.Need-returns-2
 returns-2 c = step-atom (triples (c .before .before .before .before .before .before .before .before .before .before .args .codes .now)) (c .before .before .before .before .before .before .before .before .before .before .args .stack .now) (c .before .before .before .before .before .before .before .before .before .before .args .at) (c .before .before .before .before .before .before .before .before .before .before .args .h) _ (c .before .before .before .before .before .s .given .0 .1 .0) (c .before .before .before .before .before .s .given .0 .0) _ (subst (SimpleAt (triples (c .before .before .before .before .before .before .before .before .before .before .args .codes .now)) (c .before .before .before .before .before .before .before .before .before .before .args .at)) (c .before .before .before .before .before .s .given .1) (c .before .before .before .before .before .before .before .simple-at .ensures)) (c .before .before .follow .ensures)
 
 same-length-2 : tie.Need-same-length-2
-same-length-2 c = search needs
+same-length-2 c = c .before .before .follow2 .kept .1 .0
 
 returns-3 : tie.Need-returns-3
 returns-3 c = step-program (triples (c .before .before .before .before .before .before .before .before .before .before .args .codes .now)) (c .before .before .before .before .before .before .before .before .before .before .args .stack .now) (c .before .before .before .before .before .before .before .before .before .before .args .at) (c .before .before .before .before .before .before .before .before .before .before .args .h) _ (c .before .before .before .before .before .s2 .given .0 .0) (c .before .before .before .before .before .s2 .given .0 .1 .0) (c .before .before .before .before .before .s2 .given .0 .1 .1 .0) (c .before .before .before .before .before .s2 .given .0 .1 .1 .1 .0) _ (subst (SimpleAt (triples (c .before .before .before .before .before .before .before .before .before .before .args .codes .now)) (c .before .before .before .before .before .before .before .before .before .before .args .at)) (c .before .before .before .before .before .s2 .given .1) (c .before .before .before .before .before .before .before .simple-at .ensures)) (c .before .before .follow2 .ensures)
