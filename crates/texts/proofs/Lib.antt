@@ -6,3 +6,11 @@ pub mod Reading
 pub mod ReadPrints
 pub mod PrintsRead
 pub mod OneReading
+pub mod DraftNames
+pub mod DraftReads
+pub mod DraftFaults
+pub mod TokenBytes
+pub mod SpelledPrints
+pub mod DraftSpelled
+pub mod Refit
+pub mod WouldPass

@@ -18,6 +18,7 @@ use Rattle.akl.specs.Reader.{fault, Around, statement-faults, query-variables, 
 use Rattle.akl.specs.Stability.{is-some}
 use Rattle.akl.specs.WellFormed.{statement-passes, definition-passes, program-passes, names-pass, spelled-variable, spelled-predicate}
 use Rattle.theory.specs.Formed.{QueryFits}
+use Rattle.texts.specs.Readable.{program-of, query-of, statement-in}
 use Rattle.texts.specs.Spelled.{Variables, SpelledStatement, SpelledDefinition, SpelledDefinitions}
 use Rattle.texts.proofs.TokensSpelled.{tokens-spelled}
 use Rattle.texts.proofs.TreesSpelled.{query-spelled, program-spelled}
@@ -111,25 +112,43 @@ module _ (ds : List Definition) where
       let k1 = no-left (fault 3 (ltb most-definitions (size ds))) (fault 4 (twice (heads ds))) (k2 .0) in
       and-T (leb (size P₀) most-definitions && not (twice (map (λ d. (d .name, d .arity)) P₀))) (all (definition-passes P₀) P₀) .1 (and-T (leb (size P₀) most-definitions) (not (twice (map (λ d. (d .name, d .arity)) P₀))) .1 (subst (λ j. T (leb j most-definitions)) (sym (size-map definition-of ds)) (not-over most-definitions (size ds) (no-fault 3 (ltb most-definitions (size ds)) (k1 .0))), subst (λ h. T (not (twice h))) (sym (heads-same ds)) (not-T (twice (heads ds)) .1 (no-fault 4 (twice (heads ds)) (k1 .1)))), all-ok ds sp (k2 .1))
 
--- A program that is read passes 2 to 7.
-pub read-program-passes : (text : List ℕ) (P : Program) → read-program text ≡ ok P → T (program-passes P)
-unfolding read-program
-read-program-passes text P e = by-size (ltb program-bytes (size text)) e
+-- the names in the tree of a text are spelled as they must be
+program-tree-spelled : (text : List ℕ) (ds : List Definition) → (tokens text >>= parse-program) ≡ some ds → SpelledDefinitions ds
+program-tree-spelled text ds e = go (tokens text) refl e
   where
-    by-tree : (o : Option (List Definition)) → (tokens text >>= parse-program) ≡ o → elim o as (λ z. Result Program) [ none ↦ refused 2 | some ds ↦ checked (program-faults ds) (map definition-of ds) ] ≡ ok P → T (program-passes P)
-    by-tree none p q = absurd (refused-not 2 P q)
-    by-tree (some ds) p q = let c = checked-inv (program-faults ds) (map definition-of ds) P q in subst (λ z. T (program-passes z)) (c .1) (program-ok ds (spelled (tokens text) refl p) (c .0))
-      where
-        spelled : (o : Option (List Token)) → tokens text ≡ o → (o >>= parse-program) ≡ some ds → SpelledDefinitions ds
-        spelled none a b = absurd (nope b)
-          where
-            nope : _≡_ {A = Option (List Definition)} none (some ds) → ⊥
-            nope r = let z : _≡_ {A = ℕ} 0 1 = cc in omega arith
-        spelled (some ts) a b = program-spelled ts ds (tokens-spelled text ts a) b
+    nope : _≡_ {A = Option (List Definition)} none (some ds) → ⊥
+    nope r = let z : _≡_ {A = ℕ} 0 1 = cc in omega arith
 
-    by-size : (b : Bool) → if b (refused 1) (elim (tokens text >>= parse-program) as (λ z. Result Program) [ none ↦ refused 2 | some ds ↦ checked (program-faults ds) (map definition-of ds) ]) ≡ ok P → T (program-passes P)
-    by-size true q = absurd (refused-not 1 P q)
-    by-size false q = by-tree (tokens text >>= parse-program) refl q
+    go : (o : Option (List Token)) → tokens text ≡ o → (o >>= parse-program) ≡ some ds → SpelledDefinitions ds
+    go none a b = absurd (nope b)
+    go (some ts) a b = program-spelled ts ds (tokens-spelled text ts a) b
+
+query-tree-spelled : (text : List ℕ) (s : Statement) → (tokens text >>= parse-query) ≡ some s → SpelledStatement s
+query-tree-spelled text s e = go (tokens text) refl e
+  where
+    nope : _≡_ {A = Option Statement} none (some s) → ⊥
+    nope r = let z : _≡_ {A = ℕ} 0 1 = cc in omega arith
+
+    go : (o : Option (List Token)) → tokens text ≡ o → (o >>= parse-query) ≡ some s → SpelledStatement s
+    go none a b = absurd (nope b)
+    go (some ts) a b = query-spelled ts s (tokens-spelled text ts a) b
+
+-- A program that is read passes 2 to 7: from a text of any size, and so from one that is not too long.
+pub program-of-passes : (text : List ℕ) (P : Program) → program-of text ≡ ok P → T (program-passes P)
+unfolding program-of
+program-of-passes text P e = go (tokens text >>= parse-program) refl e
+  where
+    go : (o : Option (List Definition)) → (tokens text >>= parse-program) ≡ o → elim o as (λ z. Result Program) [ none ↦ refused 2 | some ds ↦ checked (program-faults ds) (map definition-of ds) ] ≡ ok P → T (program-passes P)
+    go none p q = absurd (refused-not 2 P q)
+    go (some ds) p q = let c = checked-inv (program-faults ds) (map definition-of ds) P q in subst (λ z. T (program-passes z)) (c .1) (program-ok ds (program-tree-spelled text ds p) (c .0))
+
+pub read-program-passes : (text : List ℕ) (P : Program) → read-program text ≡ ok P → T (program-passes P)
+unfolding read-program program-of
+read-program-passes text P e = go (ltb program-bytes (size text)) e
+  where
+    go : (b : Bool) → if b (refused 1) (program-of text) ≡ ok P → T (program-passes P)
+    go true q = absurd (refused-not 1 P q)
+    go false q = program-of-passes text P q
 
 -- ---------------------------------------------------------------------------------------------
 -- Queries.
@@ -155,24 +174,38 @@ module _ (P : Program) (s : Statement) where
       fine = statement-ok P (map (λ (d : Def). (d .name, d .arity)) P) (known P) xs₀ any-number s [] 0 a (record { defs-are = refl; bound-is = inr (λ x. tt); depth-is = refl }) (omega arith) sp (k .1)
 
 -- A query that is read may start.
-pub read-query-fits : (P : Program) (text : List ℕ) (q : Query) → read-query P text ≡ ok q → QueryFits P q
-unfolding read-query
-read-query-fits P text q e = by-size (ltb query-bytes (size text)) e
+pub query-of-fits : (P : Program) (text : List ℕ) (q : Query) → query-of P text ≡ ok q → QueryFits P q
+unfolding query-of
+query-of-fits P text q e = go (tokens text >>= parse-query) refl e
   where
     made : Statement → Query
     made s = record { variables = query-variables s; statement = statement-of s (query-variables s) [] }
 
-    by-tree : (o : Option Statement) → (tokens text >>= parse-query) ≡ o → elim o as (λ z. Result Query) [ none ↦ refused 2 | some s ↦ checked (query-faults P s) (made s) ] ≡ ok q → QueryFits P q
-    by-tree none p r = absurd (refused-not 2 q r)
-    by-tree (some s) p r = let c = checked-inv (query-faults P s) (made s) q r in subst (QueryFits P) (c .1) (query-ok P s (spelled (tokens text) refl p) (c .0))
-      where
-        spelled : (o : Option (List Token)) → tokens text ≡ o → (o >>= parse-query) ≡ some s → SpelledStatement s
-        spelled none a b = absurd (nope b)
-          where
-            nope : _≡_ {A = Option Statement} none (some s) → ⊥
-            nope z = let y : _≡_ {A = ℕ} 0 1 = cc in omega arith
-        spelled (some ts) a b = query-spelled ts s (tokens-spelled text ts a) b
+    go : (o : Option Statement) → (tokens text >>= parse-query) ≡ o → elim o as (λ z. Result Query) [ none ↦ refused 2 | some s ↦ checked (query-faults P s) (made s) ] ≡ ok q → QueryFits P q
+    go none p r = absurd (refused-not 2 q r)
+    go (some s) p r = let c = checked-inv (query-faults P s) (made s) q r in subst (QueryFits P) (c .1) (query-ok P s (query-tree-spelled text s p) (c .0))
 
-    by-size : (b : Bool) → if b (refused 1) (elim (tokens text >>= parse-query) as (λ z. Result Query) [ none ↦ refused 2 | some s ↦ checked (query-faults P s) (made s) ]) ≡ ok q → QueryFits P q
-    by-size true r = absurd (refused-not 1 q r)
-    by-size false r = by-tree (tokens text >>= parse-query) refl r
+pub read-query-fits : (P : Program) (text : List ℕ) (q : Query) → read-query P text ≡ ok q → QueryFits P q
+unfolding read-query query-of
+read-query-fits P text q e = go (ltb query-bytes (size text)) e
+  where
+    go : (b : Bool) → if b (refused 1) (query-of P text) ≡ ok q → QueryFits P q
+    go true r = absurd (refused-not 1 q r)
+    go false r = query-of-fits P text q r
+
+-- A statement that is read, with any names for its variables, passes.
+pub statement-in-passes : (P : Program) (xs : List Name) (text : List ℕ) (s : Stmt) → statement-in P xs text ≡ ok s → T (statement-passes P any-number 0 s)
+unfolding statement-in size
+statement-in-passes P xs text s e = go (tokens text >>= parse-query) refl e
+  where
+    a : Around
+    a = record { definitions = map (λ (d : Def). (d .name, d .arity)) P; bound = none; depth = 0 }
+
+    passes : (t : Statement) → SpelledStatement t → statement-faults t a ≡ [] → T (statement-passes P any-number 0 (statement-of t xs []))
+    passes t sp f =
+        let k : Fine P (map (λ (d : Def). (d .name, d .arity)) P) (known P) xs any-number [] 0 (statement-of t xs []) = statement-ok P (map (λ (d : Def). (d .name, d .arity)) P) (known P) xs any-number t [] 0 a (record { defs-are = refl; bound-is = inr (λ x. tt); depth-is = refl }) (omega arith) sp f in
+        passes-iff P any-number 0 (statement-of t xs []) .1 (k .0, omega (arith, k .1))
+
+    go : (o : Option Statement) → (tokens text >>= parse-query) ≡ o → elim o as (λ z. Result Stmt) [ none ↦ refused 2 | some t ↦ checked (statement-faults t a) (statement-of t xs []) ] ≡ ok s → T (statement-passes P any-number 0 s)
+    go none p r = absurd (refused-not 2 s r)
+    go (some t) p r = let c = checked-inv (statement-faults t a) (statement-of t xs []) s r in subst (λ z. T (statement-passes P any-number 0 z)) (c .1) (passes t (query-tree-spelled text t p) (c .0))

@@ -1,3 +1,5 @@
 pub mod Spelled
 pub mod Printing
 pub mod Writable
+pub mod Draft
+pub mod Readable
