@@ -1,7 +1,7 @@
 -- The names of levels and numbers in a draft: spelled as variables, each its own, and found where they are looked up.
 use mathlib.Core.Path.{_≡_, refl, ap, sym, _∙_, subst}
 use mathlib.Core.Logic.{_↔_, _⊎_, inl, inr}
-use mathlib.Core.List.{List, [], _∷_, _++_, map}
+use mathlib.Core.List.{List, [], _∷_, _++_, map, tail-eq-of-cons-eq}
 use mathlib.Core.Bool.{Bool, true, false, _&&_, _||_, not}
 use mathlib.Core.Option.{Option, some, none}
 use Prim.Native.Nat.{ℕ, zero, suc, _+_, _*_, _/_, _%_, _≤_, _<_}
@@ -63,17 +63,11 @@ number-spelled x = and-T (all (λ c. word-class (class-of c)) (low-digits 31 x))
 
 level-own : (x y : ℕ) → x < most-names → y < most-names → T (same (level-name x) (level-name y)) → x ≡ y
 unfolding level-name most-names
-level-own x y a b t =
-    let e = same-eq (66 ∷ low-digits 31 x) (66 ∷ low-digits 31 y) t in
-    let d : low-digits 31 x ≡ low-digits 31 y = cc e in
-    digits-own 31 x y a b d
+level-own x y a b t = digits-own 31 x y a b (tail-eq-of-cons-eq (same-eq (level-name x) (level-name y) t))
 
 number-own : (x y : ℕ) → x < most-names → y < most-names → T (same (number-name x) (number-name y)) → x ≡ y
 unfolding number-name most-names
-number-own x y a b t =
-    let e = same-eq (70 ∷ low-digits 31 x) (70 ∷ low-digits 31 y) t in
-    let d : low-digits 31 x ≡ low-digits 31 y = cc e in
-    digits-own 31 x y a b d
+number-own x y a b t = digits-own 31 x y a b (tail-eq-of-cons-eq (same-eq (number-name x) (number-name y) t))
 
 -- no number is named as a level
 number-no-level : (x l : ℕ) → T (same (number-name x) (level-name l)) → ⊥

@@ -14,3 +14,5 @@ pub mod SpelledPrints
 pub mod DraftSpelled
 pub mod Refit
 pub mod WouldPass
+pub mod NamesPass
+pub mod StoreTexts

@@ -18,7 +18,7 @@ use Rattle.akl.specs.Reader.{fault, Around, statement-faults, query-variables, 
 use Rattle.akl.specs.Stability.{is-some}
 use Rattle.akl.specs.WellFormed.{statement-passes, definition-passes, program-passes, names-pass, spelled-variable, spelled-predicate}
 use Rattle.theory.specs.Formed.{QueryFits}
-use Rattle.texts.specs.Readable.{program-of, query-of, statement-in}
+use Rattle.texts.specs.Readable.{program-of, query-of, around-statement, statement-in}
 use Rattle.texts.specs.Spelled.{Variables, SpelledStatement, SpelledDefinition, SpelledDefinitions}
 use Rattle.texts.proofs.TokensSpelled.{tokens-spelled}
 use Rattle.texts.proofs.TreesSpelled.{query-spelled, program-spelled}
@@ -142,9 +142,12 @@ program-of-passes text P e = go (tokens text >>= parse-program) refl e
     go none p q = absurd (refused-not 2 P q)
     go (some ds) p q = let c = checked-inv (program-faults ds) (map definition-of ds) P q in subst (λ z. T (program-passes z)) (c .1) (program-ok ds (program-tree-spelled text ds p) (c .0))
 
-pub read-program-passes : (text : List ℕ) (P : Program) → read-program text ≡ ok P → T (program-passes P)
+pub read-program-is : (text : List ℕ) → read-program text ≡ if (ltb program-bytes (size text)) (refused 1) (program-of text)
 unfolding read-program program-of
-read-program-passes text P e = go (ltb program-bytes (size text)) e
+read-program-is text = refl
+
+pub read-program-passes : (text : List ℕ) (P : Program) → read-program text ≡ ok P → T (program-passes P)
+read-program-passes text P e = go (ltb program-bytes (size text)) (sym (read-program-is text) ∙ e)
   where
     go : (b : Bool) → if b (refused 1) (program-of text) ≡ ok P → T (program-passes P)
     go true q = absurd (refused-not 1 P q)
@@ -185,9 +188,12 @@ query-of-fits P text q e = go (tokens text >>= parse-query) refl e
     go none p r = absurd (refused-not 2 q r)
     go (some s) p r = let c = checked-inv (query-faults P s) (made s) q r in subst (QueryFits P) (c .1) (query-ok P s (query-tree-spelled text s p) (c .0))
 
-pub read-query-fits : (P : Program) (text : List ℕ) (q : Query) → read-query P text ≡ ok q → QueryFits P q
+pub read-query-is : (P : Program) (text : List ℕ) → read-query P text ≡ if (ltb query-bytes (size text)) (refused 1) (query-of P text)
 unfolding read-query query-of
-read-query-fits P text q e = go (ltb query-bytes (size text)) e
+read-query-is P text = refl
+
+pub read-query-fits : (P : Program) (text : List ℕ) (q : Query) → read-query P text ≡ ok q → QueryFits P q
+read-query-fits P text q e = go (ltb query-bytes (size text)) (sym (read-query-is P text) ∙ e)
   where
     go : (b : Bool) → if b (refused 1) (query-of P text) ≡ ok q → QueryFits P q
     go true r = absurd (refused-not 1 q r)
@@ -199,7 +205,7 @@ unfolding statement-in size
 statement-in-passes P xs text s e = go (tokens text >>= parse-query) refl e
   where
     a : Around
-    a = record { definitions = map (λ (d : Def). (d .name, d .arity)) P; bound = none; depth = 0 }
+    a = around-statement P
 
     passes : (t : Statement) → SpelledStatement t → statement-faults t a ≡ [] → T (statement-passes P any-number 0 (statement-of t xs []))
     passes t sp f =

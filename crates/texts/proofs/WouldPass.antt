@@ -22,7 +22,7 @@ use Rattle.theory.specs.Scope.{Below}
 use Rattle.texts.specs.Spelled.{SpelledStatement, SpelledDefinition, SpelledDefinitions}
 use Rattle.texts.specs.Printing.{query-tokens, program-tokens}
 use Rattle.texts.specs.Draft.{most-names, level-names, number-names, draft, draft-definition, widest, program-widest, text-of}
-use Rattle.texts.specs.Readable.{program-of, query-of, statement-in, ProgramText, NamesText, StatementText}
+use Rattle.texts.specs.Readable.{program-of, around-statement, statement-in, ProgramText, NamesText, StatementText}
 use Rattle.texts.proofs.QueryNames.{variables-all}
 use Rattle.texts.proofs.PrintsRead.{query-reads, program-reads}
 use Rattle.texts.proofs.Reading.{program-of-passes, query-of-fits, statement-in-passes}
@@ -169,7 +169,7 @@ passing-statement P named s K w r b h = (number-names K, not-T (repeats (number-
     t = draft s 0
 
     a : Around
-    a = record { definitions = heads-of P; bound = none; depth = 0 }
+    a = around-statement P
 
     fits : T (statement-fits s P (below K) 0)
     fits = refit P any-number (below K) s 0 (λ x i u. lt→ltb x K (b x i)) (k .0)

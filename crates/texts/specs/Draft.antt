@@ -3,7 +3,7 @@
 use mathlib.Core.List.{List, [], _∷_, _++_, map}
 use mathlib.Core.Option.{Option, some, none}
 use Prim.Native.Nat.{ℕ, zero, suc, _+_, _*_, _/_, _%_, max}
-use Rattle.constraint.specs.Constraint.{Con, ctrue, mapCon}
+use Rattle.constraint.specs.Constraint.{Con, ctrue, ceq, mapCon}
 use Rattle.akl.specs.Base.{Name, range}
 use Rattle.akl.specs.Syntax.{Var, number, level, Op, wait, cond, commit, Stmt, atom, call, comp, hide, choice, Clauses, no-more, clause, Def, Program}
 use Rattle.akl.specs.Token.{Token, name, digits, variable, sign, Mark, open-bracket, close-bracket, comma, full-stop, colon, defines, equals, semicolon, operator}
@@ -69,6 +69,11 @@ unfoldable mutual
 
 unfoldable pub draft-definition : Def → Definition
 draft-definition d = record { head = d .name; parameters = level-names 0 (d .arity); statement = draft (d .body) (d .arity) }
+
+-- A query whose variables have these names: X = X, Y = Y, .., true.
+unfoldable pub naming : List Name → Statement
+naming [] = single (constraint ctrue)
+naming (x ∷ xs) = joined (constraint (ceq x x)) (naming xs)
 
 -- The most variables that are bound around a part of a statement, of which n are bound around it all.
 unfoldable mutual

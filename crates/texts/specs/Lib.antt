@@ -3,3 +3,4 @@ pub mod Printing
 pub mod Writable
 pub mod Draft
 pub mod Readable
+pub mod StoreFormed

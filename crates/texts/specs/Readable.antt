@@ -11,7 +11,7 @@ use Rattle.akl.specs.Base.{Name, size, repeats, all, _>>=_, Result, refused, ok
 use Rattle.akl.specs.Syntax.{Var, Stmt, atom, Def, Program}
 use Rattle.akl.specs.Token.{tokens}
 use Rattle.akl.specs.Parse.{parse-query, parse-program}
-use Rattle.akl.specs.Reader.{statement-faults, query-variables, statement-of, program-faults, definition-of, checked, Query, query-faults}
+use Rattle.akl.specs.Reader.{Around, statement-faults, query-variables, statement-of, program-faults, definition-of, checked, Query, query-faults}
 use Rattle.akl.specs.Rules.{stored}
 use Rattle.akl.specs.Configuration.{Kind, Node, or, and, stmt, choice-box, guard, Nodes, nil, cons}
 use Rattle.akl.specs.WellFormed.{spelled-variable, numbers}
@@ -25,9 +25,12 @@ unfoldable pub query-of : Program → List ℕ → Result Query
 query-of P text = elim (tokens text >>= parse-query) [ none ↦ refused 2 | some s ↦ checked (query-faults P s) (record { variables = query-variables s; statement = statement-of s (query-variables s) [] }) ]
 
 -- A statement of a configuration is read like a query's, but it may have any number of variables: xs are their names, by
--- number.
+-- number. Around it are the program's definitions, no names that bind, and no bracket.
+abbrev pub around-statement : Program → Around
+around-statement P = record { definitions = map (λ (d : Def). (d .name, d .arity)) P; bound = none; depth = 0 }
+
 unfoldable pub statement-in : Program → List Name → List ℕ → Result Stmt
-statement-in P xs text = elim (tokens text >>= parse-query) [ none ↦ refused 2 | some s ↦ checked (statement-faults s (record { definitions = map (λ (d : Def). (d .name, d .arity)) P; bound = none; depth = 0 })) (statement-of s xs []) ]
+statement-in P xs text = elim (tokens text >>= parse-query) [ none ↦ refused 2 | some s ↦ checked (statement-faults s (around-statement P)) (statement-of s xs []) ]
 
 -- Some text reads as the program.
 abbrev pub ProgramText : Program → Type 0
