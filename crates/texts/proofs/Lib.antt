@@ -16,3 +16,4 @@ pub mod Refit
 pub mod WouldPass
 pub mod NamesPass
 pub mod StoreTexts
+pub mod LeastDepth

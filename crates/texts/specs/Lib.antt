@@ -4,3 +4,4 @@ pub mod Writable
 pub mod Draft
 pub mod Readable
 pub mod StoreFormed
+pub mod TextDepth
