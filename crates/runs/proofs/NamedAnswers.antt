@@ -1,7 +1,7 @@
 -- Answers over trees labelled with names: what an answer allows, the trees that fit its text, and which answers have the same
 -- text are the same as over trees with any labels.
 use mathlib.Core.Path.{_≡_, refl, ap, sym, _∙_, subst}
-use mathlib.Core.Logic.{_↔_}
+use mathlib.Core.Logic.{_↔_, _⊎_, inl, inr}
 use mathlib.Core.List.{List, [], _∷_}
 use Prim.Native.Nat.{ℕ, _≤_, max}
 use native.Mathlib.Omega.{arith}
@@ -12,7 +12,7 @@ use Rattle.akl.specs.Answers.{Answer, Term, unbound, built, Terms, no-terms, mo
 use Rattle.theory.specs.Meaning.{hidden-locals}
 use Rattle.theory.specs.Named.{NamedTree, NamedForest, NamedAsg, NamedCon, NamedStore, NamedChoice}
 use Rattle.theory.proofs.NamedTrees.{relabel, relabels, relabel-named, relabels-same, to-name, to-name-named, to-name-same, choice-named, longest, own-names, own-names-named, own-names-choice, spelled-is-named}
-use Rattle.runs.specs.Calls.{Allows}
+use Rattle.runs.specs.Calls.{Allows, AnswerIn, AllowedBy}
 use Rattle.runs.specs.Shown.{Fair, SpelledCon, SpelledStore, tree-of, forest-of, FitsText, shown-terms}
 use Rattle.runs.proofs.SameText.{text-solutions, same-text-iff}
 
@@ -32,6 +32,18 @@ NamedAllows q a ρ = NamedChoice (hidden-locals q (a .0)) (a .1) ρ
 
 pub allows-named : (q : ℕ) (a : Answer) → Fair a → (ρ : Asg) → NamedAsg ρ → Allows q a ρ ↔ NamedAllows q a ρ
 allows-named q a f ρ r = choice-named (hidden-locals q (a .0)) (a .1) ρ (store-named (a .1) (f .labels)) r
+
+-- What some answer of a list allows.
+abbrev pub NamedAllowedBy : ℕ → List Answer → Asg → Type 0
+NamedAllowedBy q [] ρ = ⊥
+NamedAllowedBy q (a ∷ bs) ρ = NamedAllows q a ρ ⊎ NamedAllowedBy q bs ρ
+
+pub allowed-by-named : (q : ℕ) (bs : List Answer) → ((a : Answer) → AnswerIn a bs → Fair a) → (ρ : Asg) → NamedAsg ρ → AllowedBy q bs ρ ↔ NamedAllowedBy q bs ρ
+allowed-by-named q [] f ρ r = (λ h. h, λ h. h)
+allowed-by-named q (a ∷ bs) f ρ r =
+    let x = allows-named q a (f a (inl refl)) ρ r in
+    let y = allowed-by-named q bs (λ b i. f b (inr i)) ρ r in
+    (λ h. elim h [ inl k ↦ inl (x .0 k) | inr k ↦ inr (y .0 k) ], λ h. elim h [ inl k ↦ inl (x .1 k) | inr k ↦ inr (y .1 k) ])
 
 -- An assignment of any trees is allowed exactly when it is with names of their own for its labels.
 allows-own : (q n : ℕ) (a : Answer) → Fair a → longest (a .1) ≤ n → (ρ : Asg) → Allows q a ρ ↔ NamedAllows q a (own-names n ρ)

@@ -17,3 +17,4 @@ pub mod StepKeeps
 pub mod StepMeaning
 pub mod OwnVariables
 pub mod NamedTrees
+pub mod NamedSolutions

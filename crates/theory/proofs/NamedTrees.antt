@@ -117,6 +117,10 @@ names-fixed : (φ : Label → Label) (σ : Store) → ((f : Label) → Named f �
 names-fixed φ [] h n = tt
 names-fixed φ (c ∷ σ) h n = (con-fixed φ c h (n .0), names-fixed φ σ h (n .1))
 
+-- What any trees satisfy, they satisfy with names for their labels.
+pub sats-to-name : (ρ : Asg) (σ : Store) → NamedStore σ → Sats ρ σ → Sats (λ x. relabel (ρ x) to-name) σ
+sats-to-name ρ σ n s = sats-through to-name ρ σ (names-fixed to-name σ to-name-same n) s
+
 -- A choice of any trees for vs gives one of trees labelled with names, where the others are such.
 pub choice-named : (vs : List ℕ) (σ : Store) (ρ : Asg) → NamedStore σ → NamedAsg ρ → ((ρ′ : Asg) × Off vs ρ ρ′ × Sats ρ′ σ) ↔ NamedChoice vs σ ρ
 choice-named vs σ ρ n r = (λ h. (through to-name (h .0), λ x. relabel-named (h .0 x) to-name to-name-named, λ x k. sym (relabel-same (ρ x) to-name to-name-same (r x)) ∙ ap (λ t. relabel t to-name) (h .1 x k), sats-through to-name (h .0) σ (names-fixed to-name σ to-name-same n) (h .2)), λ h. (h .0, h .2, h .3))

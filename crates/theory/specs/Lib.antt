@@ -4,3 +4,4 @@ pub mod Entails
 pub mod Transition
 pub mod Formed
 pub mod Named
+pub mod NamedMeaning
