@@ -4,16 +4,22 @@ use mathlib.Core.List.{List, [], _∷_, _++_}
 use mathlib.Core.Bool.{Bool, true, false}
 use Prim.Native.Nat.{ℕ, zero, suc, _+_, _≤_, max}
 use native.Mathlib.Omega.{arith}
-use lib.Dec.{T}
+use lib.Dec.{T, lt→ltb}
 use Rattle.akl.specs.Base.{Name, range}
+use Rattle.akl.specs.Limits.{most-depth}
 use Rattle.akl.specs.Syntax.{Op, Stmt, atom, call, comp, hide, choice, Clauses, no-more, clause, Program}
 use Rattle.akl.specs.Grammar.{Statement, single, joined, Simple, constraint, program, bracket, Bracket, plain, hiding, choosing, Clause, written, Others, end, and-also}
 use Rattle.akl.specs.Parse.{unclaused}
 use Rattle.akl.specs.Reader.{statement-of, simple-of, bracket-of, clause-of, others-of}
-use Rattle.akl.specs.WellFormed.{is-comp, bracketed, depth, clauses-depth, statement-fits}
+use Rattle.akl.specs.WellFormed.{is-comp, bracketed, depth, clauses-depth, statement-fits, statement-passes, numbers}
+use Rattle.theory.specs.Scope.{Below}
 use Rattle.texts.specs.TextDepth.{text-depth, simple-depth, bracket-depth, clause-depth, others-depth}
-use Rattle.texts.specs.Draft.{most-names, level-names, number-names, simply, draft, draft-choice, draft-others, widest}
+use Rattle.texts.specs.Draft.{most-names, level-names, number-names, simply, draft, draft-choice, draft-others, ListsFit}
+use Rattle.theory.proofs.Passing.{passes-iff}
+use Rattle.theory.proofs.Closed.{any-number}
 use Rattle.texts.proofs.DraftReads.{below, draft-reads}
+use Rattle.texts.proofs.Refit.{refit}
+use Rattle.texts.proofs.Narrow.{narrow}
 
 -- ---------------------------------------------------------------------------------------------
 -- No text is less deep.
@@ -96,7 +102,11 @@ mutual
       let z = draft-others-depth cs op n in
       λ i. max (max (x i) (y i)) (z i)
 
--- Of all trees that read as the statement, with any names for its variables, none is less deep, and one is as deep as that.
-pub least-depth : (P : Program) (s : Stmt) (K : ℕ) → K ≤ most-names → widest s 0 ≤ most-names → T (statement-fits s P (below K) 0) → ((xs : List Name) (t : Statement) → statement-of t xs [] ≡ s → depth s ≤ text-depth t) × ((xs : List Name) × (t : Statement) × (statement-of t xs [] ≡ s) × (text-depth t ≡ depth s))
+-- Of all trees that read as a statement that passes, with any names for its variables, none is less deep, and one is as deep as
+-- that.
+pub least-depth : (P : Program) (s : Stmt) (K : ℕ) → ListsFit s → K ≤ most-names → Below (numbers s) K → T (statement-passes P any-number 0 s) → ((xs : List Name) (t : Statement) → statement-of t xs [] ≡ s → depth s ≤ text-depth t) × ((xs : List Name) × (t : Statement) × (statement-of t xs [] ≡ s) × (text-depth t ≡ depth s))
 unfolding level-names range
-least-depth P s K r w f = (λ xs t e. subst (λ z. depth z ≤ text-depth t) e (no-less xs t []), (number-names K, draft s 0, draft-reads P K r s 0 f w, draft-depth s 0))
+least-depth P s K lists r b h = (λ xs t e. subst (λ z. depth z ≤ text-depth t) e (no-less xs t []), (number-names K, draft s 0, draft-reads P K r s 0 (refit P any-number (below K) s 0 (λ x i u. lt→ltb x K (b x i)) (k .0)) (narrow s 0 lists (omega arith) (k .1)), draft-depth s 0))
+  where
+    k : T (statement-fits s P any-number 0) × (depth s ≤ most-depth)
+    k = passes-iff P any-number 0 s .0 h

@@ -13,6 +13,7 @@ pub mod TokenBytes
 pub mod SpelledPrints
 pub mod DraftSpelled
 pub mod Refit
+pub mod Narrow
 pub mod WouldPass
 pub mod NamesPass
 pub mod StoreTexts

@@ -22,29 +22,13 @@ use Rattle.theory.proofs.Locals.{size-map}
 use Rattle.theory.proofs.Passing.{passes-iff}
 use Rattle.theory.proofs.Closed.{any-number}
 use Rattle.theory.proofs.Reflect.{ok-numbers, formed-iff}
-use Rattle.texts.specs.Draft.{most-names, power, widest, clauses-widest, program-widest}
+use Rattle.texts.specs.Draft.{most-names, power, most-hidden, ProgramListsFit}
 use Rattle.texts.specs.Readable.{ProgramText, NamesText, StatementText, StoredText, StoreText, StatementsText, StatementsTextAll}
 use Rattle.texts.specs.StoreFormed.{StoreFormed}
 use Rattle.texts.proofs.Reading.{statement-in-passes}
+use Rattle.texts.proofs.Narrow.{few-parts}
 use Rattle.texts.proofs.WouldPass.{program-passes-iff, statement-passes-iff}
 use Rattle.texts.proofs.NamesPass.{names-pass-iff}
-
--- ---------------------------------------------------------------------------------------------
--- Hidden variables are parts, so that those around a place are no more than the parts.
-
-mutual
-  unfolding widest statement-parts
-
-  widest-parts : (s : Stmt) (n : ℕ) → widest s n ≤ n + statement-parts s
-  widest-parts (atom c) n = omega arith
-  widest-parts (call p xs) n = omega arith
-  widest-parts (comp a b) n = omega (arith, widest-parts a n, widest-parts b n)
-  widest-parts (hide m a) n = omega (arith, widest-parts a (n + m))
-  widest-parts (choice op cs) n = omega (arith, clauses-parts-widest cs n)
-
-  clauses-parts-widest : (cs : Clauses) (n : ℕ) → clauses-widest cs n ≤ n + clauses-parts cs
-  clauses-parts-widest no-more n = omega arith
-  clauses-parts-widest (clause m g b cs) n = omega (arith, widest-parts g (n + m), widest-parts b (n + m), clauses-parts-widest cs n)
 
 -- ---------------------------------------------------------------------------------------------
 -- Stored constraints.
@@ -95,14 +79,14 @@ stored-back (capp x f ys) c h e =
 -- Texts of what passes.
 
 module _ (P : Program) (passes : T (program-passes P)) (K : ℕ) (room : K ≤ most-names) where
-  statement-text : (s : Stmt) → statement-parts s ≤ most-names → Below (numbers s) K → T (statement-passes P any-number 0 s) → StatementText P s
-  statement-text s w b h = statement-passes-iff P passes s K (omega (arith, widest-parts s 0)) room b .0 h
+  statement-text : (s : Stmt) → statement-parts s ≤ most-hidden → Below (numbers s) K → T (statement-passes P any-number 0 s) → StatementText P s
+  statement-text s w b h = statement-passes-iff P passes s K (few-parts s w) room b .0 h
 
   stored-text : (c : Con ℕ) → Below (vars c) K → T (stored-fits c) → StoredText P c
-  unfolding statement-fits depth numbers widest
+  unfolding statement-fits depth numbers
   stored-text c b h =
       let k = con-fits c h in
-      (mapCon number c, statement-passes-iff P passes (atom (mapCon number c)) K (omega arith) room (subst (λ l. Below l K) (sym (con-numbers c)) b) .0 (passes-iff P any-number 0 (atom (mapCon number c)) .1 (k .0, omega arith)), k .1)
+      (mapCon number c, statement-passes-iff P passes (atom (mapCon number c)) K tt room (subst (λ l. Below l K) (sym (con-numbers c)) b) .0 (passes-iff P any-number 0 (atom (mapCon number c)) .1 (k .0, omega arith)), k .1)
 
   left-below : (a b : List ℕ) → Below (a ++ b) K → Below a K
   left-below a b h x i = h x (In-append x a b .1 (inl i))
@@ -120,7 +104,7 @@ module _ (P : Program) (passes : T (program-passes P)) (K : ℕ) (room : K ≤ m
   mutual
     unfolding statements-pass parts all-numbers
 
-    node-text : {k : Kind} (n : Node k) → parts n ≤ most-names → Below (all-numbers n) K → T (statements-pass n P) → StatementsText n P
+    node-text : {k : Kind} (n : Node k) → parts n ≤ most-hidden → Below (all-numbers n) K → T (statements-pass n P) → StatementsText n P
     node-text (or ns) w b h = nodes-text ns (omega arith) b h
     node-text (and vs σ ms) w b h =
         let k = and-T (all stored-fits σ) (statements-pass-all ms P) .0 h in
@@ -131,7 +115,7 @@ module _ (P : Program) (passes : T (program-passes P)) (K : ℕ) (room : K ≤ m
         let k = and-T (statements-pass g P) (statement-passes P any-number 0 s) .0 h in
         (node-text g (omega arith) (left-below (all-numbers g) (numbers s) b) (k .0), statement-text s (omega arith) (right-below (all-numbers g) (numbers s) b) (k .1))
 
-    nodes-text : {k : Kind} (ns : Nodes k) → parts-all ns ≤ most-names → Below (all-numbers-in ns) K → T (statements-pass-all ns P) → StatementsTextAll ns P
+    nodes-text : {k : Kind} (ns : Nodes k) → parts-all ns ≤ most-hidden → Below (all-numbers-in ns) K → T (statements-pass-all ns P) → StatementsTextAll ns P
     nodes-text nil w b h = tt
     nodes-text (cons n ns) w b h =
         let k = and-T (statements-pass n P) (statements-pass-all ns P) .0 h in
@@ -164,23 +148,23 @@ module _ (P : Program) where
     nodes-pass (cons n ns) h = and-T (statements-pass n P) (statements-pass-all ns P) .1 (node-passes n (h .0), nodes-pass ns (h .1))
 
 -- ---------------------------------------------------------------------------------------------
--- Stores. The limits are far below the number of names.
+-- Stores. The numbers of variables are far below the number of names.
 
 numbers-room : suc last-number ≤ most-names
 unfolding most-names power
 numbers-room = leb→le (suc last-number) most-names tt
 
-pub store-formed-iff : (limit : ℕ) (P : Program) (xs : List Name) (c : Config) → limit ≤ most-names → program-widest P ≤ most-names → T (well-formed limit P xs c) ↔ StoreFormed limit P xs c
-store-formed-iff limit P xs c l w = (λ h. to-it (formed-iff limit P xs c .0 h), λ f. formed-iff limit P xs c .1 (from-it f))
+pub store-formed-iff : (limit : ℕ) (P : Program) (xs : List Name) (c : Config) → limit ≤ most-hidden → ProgramListsFit P → T (well-formed limit P xs c) ↔ StoreFormed limit P xs c
+store-formed-iff limit P xs c l lists = (λ h. to-it (formed-iff limit P xs c .0 h), λ f. formed-iff limit P xs c .1 (from-it f))
   where
     to-it : Formed limit P xs c → StoreFormed limit P xs c
-    to-it f = record { program = program-passes-iff P w .0 (f .program); names = names-pass-iff P xs .0 (f .names); statements = node-text P (f .program) (c .next) next-room (c .root) (fits (f .fit)) (ok-numbers (c .root) (c .next) [] (f .scopes) (λ x i. absurd i)) (f .statements); top-or = f .top-or; scopes = f .scopes; query = f .query; above = f .above; last = f .last; fit = f .fit }
+    to-it f = record { program = program-passes-iff P lists .0 (f .program); names = names-pass-iff P xs .0 (f .names); statements = node-text P (f .program) (c .next) next-room (c .root) (fits (f .fit)) (ok-numbers (c .root) (c .next) [] (f .scopes) (λ x i. absurd i)) (f .statements); top-or = f .top-or; scopes = f .scopes; query = f .query; above = f .above; last = f .last; fit = f .fit }
       where
         next-room : c .next ≤ most-names
         next-room = omega (arith, f .last, numbers-room)
 
-        fits : parts (c .root) ≤ limit → parts (c .root) ≤ most-names
+        fits : parts (c .root) ≤ limit → parts (c .root) ≤ most-hidden
         fits h = omega arith
 
     from-it : StoreFormed limit P xs c → Formed limit P xs c
-    from-it f = record { program = program-passes-iff P w .1 (f .program); names = names-pass-iff P xs .1 (f .names); top-or = f .top-or; statements = node-passes P (c .root) (f .statements); scopes = f .scopes; query = f .query; above = f .above; last = f .last; fit = f .fit }
+    from-it f = record { program = program-passes-iff P lists .1 (f .program); names = names-pass-iff P xs .1 (f .names); top-or = f .top-or; statements = node-passes P (c .root) (f .statements); scopes = f .scopes; query = f .query; above = f .above; last = f .last; fit = f .fit }

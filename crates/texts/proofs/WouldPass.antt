@@ -21,7 +21,7 @@ use Rattle.akl.specs.WellFormed.{statement-fits, depth, spelled-variable, spell
 use Rattle.theory.specs.Scope.{Below}
 use Rattle.texts.specs.Spelled.{SpelledStatement, SpelledDefinition, SpelledDefinitions}
 use Rattle.texts.specs.Printing.{query-tokens, program-tokens}
-use Rattle.texts.specs.Draft.{most-names, level-names, number-names, draft, draft-definition, widest, program-widest, text-of}
+use Rattle.texts.specs.Draft.{most-names, level-names, number-names, draft, draft-definition, widest, program-widest, text-of, ListsFit, ProgramListsFit}
 use Rattle.texts.specs.Readable.{program-of, around-statement, statement-in, ProgramText, NamesText, StatementText}
 use Rattle.texts.proofs.QueryNames.{variables-all}
 use Rattle.texts.proofs.PrintsRead.{query-reads, program-reads}
@@ -33,6 +33,7 @@ use Rattle.texts.proofs.DraftSpelled.{Predicates, predicates, draft-spe
 use Rattle.texts.proofs.SpelledPrints.{spelled-writable, program-writable, query-tokens-spelled, program-tokens-spelled}
 use Rattle.texts.proofs.TokenBytes.{text-tokens}
 use Rattle.texts.proofs.Refit.{refit}
+use Rattle.texts.proofs.Narrow.{narrow, narrow-program}
 use Rattle.theory.proofs.Locals.{size-map}
 use Rattle.theory.proofs.Passing.{passes-iff}
 use Rattle.theory.proofs.Closed.{any-number}
@@ -85,7 +86,7 @@ module _ (P : Program) (named : Predicates P) where
 
   definition-fine : (hs : List (Name × ℕ)) → hs ≡ heads-of P → (d : Def) → T (definition-passes P d) → widest (d .body) (d .arity) ≤ most-names → definition-faults hs (draft-definition d) ≡ []
   unfolding draft-definition
-  definition-fine hs e d h w = none-both (fault 3 (ltb most-arguments (size ps)) ++ fault 4 (repeats ps)) (statement-faults (draft (d .body) (d .arity)) a) (none-both (fault 3 (ltb most-arguments (size ps))) (fault 4 (repeats ps)) (fault-none 3 (ltb most-arguments (size ps)) (λ t. over (ltb→lt most-arguments (size ps) t) (leb→le (d .arity) most-arguments (k .1)))) (fault-none 4 (repeats ps) (levels-differ (d .arity) 0 (omega (arith, widest-least (d .body) (d .arity)))))) (draft-fine P (below 0) (d .body) (d .arity) 0 a (record { defs-are = e; bound-is = inl (refl, λ x t. none-below x (ltb→lt x 0 t)); depth-is = refl }) (k .2) (omega (arith, k .3)) w)
+  definition-fine hs e d h w = none-both (fault 3 (ltb most-arguments (size ps)) ++ fault 4 (repeats ps)) (statement-faults (draft (d .body) (d .arity)) a) (none-both (fault 3 (ltb most-arguments (size ps))) (fault 4 (repeats ps)) few-of-them all-different) body-fine
     where
       ps : List Name
       ps = level-names 0 (d .arity)
@@ -101,6 +102,15 @@ module _ (P : Program) (named : Predicates P) where
 
       none-below : (x : ℕ) → x < 0 → ⊥
       none-below x l = omega arith
+
+      few-of-them : fault 3 (ltb most-arguments (size ps)) ≡ []
+      few-of-them = fault-none 3 (ltb most-arguments (size ps)) (λ t. over (ltb→lt most-arguments (size ps) t) (leb→le (d .arity) most-arguments (k .1)))
+
+      all-different : fault 4 (repeats ps) ≡ []
+      all-different = fault-none 4 (repeats ps) (levels-differ (d .arity) 0 (omega (arith, widest-least (d .body) (d .arity))))
+
+      body-fine : statement-faults (draft (d .body) (d .arity)) a ≡ []
+      body-fine = draft-fine P (below 0) (d .body) (d .arity) 0 a (record { defs-are = e; bound-is = inl (refl, λ x t. none-below x (ltb→lt x 0 t)); depth-is = refl }) (k .2) (omega (arith, k .3)) w
 
   abbrev Narrow : Program → Type 0
   Narrow ds = program-widest ds ≤ most-names
@@ -128,11 +138,10 @@ module _ (P : Program) (named : Predicates P) where
       let y = definitions-back ds (k .1) (omega arith) in
       λ i. x i ∷ y i
 
--- A program that passes has a text. The names of 32 bytes are many but not without end, so that hidden lists may be too long
--- to have a text; no store has room for one.
-passing-program : (P : Program) → program-widest P ≤ most-names → T (program-passes P) → ProgramText P
+-- A program that passes has a text.
+passing-program : (P : Program) → ProgramListsFit P → T (program-passes P) → ProgramText P
 unfolding program-passes program-faults
-passing-program P w h = (text-of (program-tokens ds), program-text ds (definitions-spelled P named P (k2 .1)) fine ∙ ap ok (definitions-back P named P (k2 .1) w))
+passing-program P lists h = (text-of (program-tokens ds), program-text ds (definitions-spelled P named P (k2 .1)) fine ∙ ap ok (definitions-back P named P (k2 .1) w))
   where
     named : Predicates P
     named = predicates P h
@@ -143,27 +152,40 @@ passing-program P w h = (text-of (program-tokens ds), program-text ds (definitio
     k2 : T (leb (size P) most-definitions && not (twice (heads-of P))) × T (all (definition-passes P) P)
     k2 = and-T (leb (size P) most-definitions && not (twice (heads-of P))) (all (definition-passes P) P) .0 h
 
+    w : program-widest P ≤ most-names
+    w = narrow-program P P lists (k2 .1)
+
     k1 : T (leb (size P) most-definitions) × T (not (twice (heads-of P)))
     k1 = and-T (leb (size P) most-definitions) (not (twice (heads-of P))) .0 (k2 .0)
 
     over : most-definitions < size ds → size P ≤ most-definitions → ⊥
     over t l = let z = size-map draft-definition P in omega arith
 
-    fine : program-faults ds ≡ []
-    fine = none-both (fault 3 (ltb most-definitions (size ds)) ++ fault 4 (twice (heads ds))) (flat (definition-faults (heads ds)) ds) (none-both (fault 3 (ltb most-definitions (size ds))) (fault 4 (twice (heads ds))) (fault-none 3 (ltb most-definitions (size ds)) (λ t. over (ltb→lt most-definitions (size ds) t) (leb→le (size P) most-definitions (k1 .0)))) (fault-none 4 (twice (heads ds)) (λ t. not-T (twice (heads-of P)) .0 (k1 .1) (subst (λ l. T (twice l)) (heads-draft P) t)))) (definitions-fine P named (heads ds) (heads-draft P) P (k2 .1) w)
+    few-of-them : fault 3 (ltb most-definitions (size ds)) ≡ []
+    few-of-them = fault-none 3 (ltb most-definitions (size ds)) (λ t. over (ltb→lt most-definitions (size ds) t) (leb→le (size P) most-definitions (k1 .0)))
 
-pub program-passes-iff : (P : Program) → program-widest P ≤ most-names → T (program-passes P) ↔ ProgramText P
-program-passes-iff P w = (passing-program P w, λ t. program-of-passes (t .0) P (t .1))
+    all-different : fault 4 (twice (heads ds)) ≡ []
+    all-different = fault-none 4 (twice (heads ds)) (λ t. not-T (twice (heads-of P)) .0 (k1 .1) (subst (λ l. T (twice l)) (heads-draft P) t))
+
+    fine : program-faults ds ≡ []
+    fine = none-both (fault 3 (ltb most-definitions (size ds)) ++ fault 4 (twice (heads ds))) (flat (definition-faults (heads ds)) ds) (none-both (fault 3 (ltb most-definitions (size ds))) (fault 4 (twice (heads ds))) few-of-them all-different) (definitions-fine P named (heads ds) (heads-draft P) P (k2 .1) w)
+
+pub program-passes-iff : (P : Program) → ProgramListsFit P → T (program-passes P) ↔ ProgramText P
+program-passes-iff P lists = (passing-program P lists, λ t. program-of-passes (t .0) P (t .1))
 
 -- ---------------------------------------------------------------------------------------------
 -- Statements of a configuration.
 
-passing-statement : (P : Program) → Predicates P → (s : Stmt) (K : ℕ) → widest s 0 ≤ most-names → K ≤ most-names → Below (numbers s) K → T (statement-passes P any-number 0 s) → StatementText P s
+-- Its variables have numbers below K; they are named by their numbers.
+passing-statement : (P : Program) → Predicates P → (s : Stmt) (K : ℕ) → ListsFit s → K ≤ most-names → Below (numbers s) K → T (statement-passes P any-number 0 s) → StatementText P s
 unfolding statement-in number-names level-names range
-passing-statement P named s K w r b h = (number-names K, not-T (repeats (number-names K)) .1 (numbers-differ K 0 (omega arith)), variables-all (number-names K) (numbers-spelled K 0), subst (Below (numbers s)) (sym (numbers-size K)) b, text-of (query-tokens t), ap (λ (o : Option Statement). elim o as (λ z. Result Stmt) [ none ↦ refused 2 | some u ↦ checked (statement-faults u a) (statement-of u (number-names K) []) ]) (statement-tree t (draft-spelled P any-number named s 0 (k .0))) ∙ checked-none (statement-faults t a) (statement-of t (number-names K) []) (draft-fine P any-number s 0 0 a (record { defs-are = refl; bound-is = inr refl; depth-is = refl }) (k .0) (omega (arith, k .1)) w) ∙ ap ok (draft-reads P K r s 0 fits w))
+passing-statement P named s K lists r b h = (number-names K, not-T (repeats (number-names K)) .1 (numbers-differ K 0 (omega arith)), variables-all (number-names K) (numbers-spelled K 0), subst (Below (numbers s)) (sym (numbers-size K)) b, text-of (query-tokens t), has-tree ∙ checked-none (statement-faults t a) (statement-of t (number-names K) []) fine ∙ ap ok (draft-reads P K r s 0 fits w))
   where
     k : T (statement-fits s P any-number 0) × (depth s ≤ most-depth)
     k = passes-iff P any-number 0 s .0 h
+
+    w : widest s 0 ≤ most-names
+    w = narrow s 0 lists (omega arith) (k .1)
 
     t : Statement
     t = draft s 0
@@ -171,8 +193,14 @@ passing-statement P named s K w r b h = (number-names K, not-T (repeats (number-
     a : Around
     a = around-statement P
 
+    has-tree : statement-in P (number-names K) (text-of (query-tokens t)) ≡ checked (statement-faults t a) (statement-of t (number-names K) [])
+    has-tree = ap (λ (o : Option Statement). elim o as (λ z. Result Stmt) [ none ↦ refused 2 | some u ↦ checked (statement-faults u a) (statement-of u (number-names K) []) ]) (statement-tree t (draft-spelled P any-number named s 0 (k .0)))
+
+    fine : statement-faults t a ≡ []
+    fine = draft-fine P any-number s 0 0 a (record { defs-are = refl; bound-is = inr refl; depth-is = refl }) (k .0) (omega (arith, k .1)) w
+
     fits : T (statement-fits s P (below K) 0)
     fits = refit P any-number (below K) s 0 (λ x i u. lt→ltb x K (b x i)) (k .0)
 
-pub statement-passes-iff : (P : Program) → T (program-passes P) → (s : Stmt) (K : ℕ) → widest s 0 ≤ most-names → K ≤ most-names → Below (numbers s) K → T (statement-passes P any-number 0 s) ↔ StatementText P s
-statement-passes-iff P p s K w r b = (passing-statement P (predicates P p) s K w r b, λ t. statement-in-passes P (t .0) (t .4) s (t .5))
+pub statement-passes-iff : (P : Program) → T (program-passes P) → (s : Stmt) (K : ℕ) → ListsFit s → K ≤ most-names → Below (numbers s) K → T (statement-passes P any-number 0 s) ↔ StatementText P s
+statement-passes-iff P p s K lists r b = (passing-statement P (predicates P p) s K lists r b, λ t. statement-in-passes P (t .0) (t .4) s (t .5))

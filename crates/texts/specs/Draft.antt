@@ -2,7 +2,7 @@
 -- numbers, and a bracket that says nothing stands only around a composition that is the left part of one.
 use mathlib.Core.List.{List, [], _∷_, _++_, map}
 use mathlib.Core.Option.{Option, some, none}
-use Prim.Native.Nat.{ℕ, zero, suc, _+_, _*_, _/_, _%_, max}
+use Prim.Native.Nat.{ℕ, zero, suc, _+_, _*_, _/_, _%_, _≤_, max}
 use Rattle.constraint.specs.Constraint.{Con, ctrue, ceq, mapCon}
 use Rattle.akl.specs.Base.{Name, range}
 use Rattle.akl.specs.Syntax.{Var, number, level, Op, wait, cond, commit, Stmt, atom, call, comp, hide, choice, Clauses, no-more, clause, Def, Program}
@@ -91,6 +91,27 @@ unfoldable mutual
 unfoldable pub program-widest : Program → ℕ
 program-widest [] = 0
 program-widest (d ∷ ds) = max (widest (d .body) (d .arity)) (program-widest ds)
+
+-- No hidden list is longer than 2 to the power of 24. Names of 32 bytes are many but not without end, so that some bound has to
+-- be put; in a store the length of a list is written in three bytes.
+abbrev pub most-hidden : ℕ
+most-hidden = 16777216
+
+abbrev mutual
+  pub ListsFit : Stmt → Type 0
+  ListsFit (atom c) = Unit {0}
+  ListsFit (call p xs) = Unit {0}
+  ListsFit (comp a b) = ListsFit a × ListsFit b
+  ListsFit (hide m a) = (m ≤ most-hidden) × ListsFit a
+  ListsFit (choice op cs) = ClauseListsFit cs
+
+  pub ClauseListsFit : Clauses → Type 0
+  ClauseListsFit no-more = Unit {0}
+  ClauseListsFit (clause m g b cs) = (m ≤ most-hidden) × ListsFit g × ListsFit b × ClauseListsFit cs
+
+abbrev pub ProgramListsFit : Program → Type 0
+ProgramListsFit [] = Unit {0}
+ProgramListsFit (d ∷ ds) = ListsFit (d .body) × ProgramListsFit ds
 
 -- ---------------------------------------------------------------------------------------------
 -- Bytes: every token, and a space.
