@@ -5,7 +5,7 @@ use mathlib.Core.Logic.{_↔_, _⊎_, inl, inr}
 use mathlib.Core.List.{List, [], _∷_}
 use Prim.Native.Nat.{ℕ, _≤_, max}
 use native.Mathlib.Omega.{arith}
-use Rattle.constraint.specs.Tree.{Tree, Forest, node, fnil, fcons}
+use Rattle.constraint.specs.Tree.{node, fcons}
 use Rattle.constraint.specs.Constraint.{Con, ctrue, cfail, ceq, capp, Store, Asg, trees}
 use Rattle.akl.specs.Base.{Name, size, range}
 use Rattle.akl.specs.Answers.{Answer, Term, unbound, built, Terms, no-terms, more-terms, answer-text}

@@ -1,17 +1,17 @@
 -- The names of levels and numbers in a draft: spelled as variables, each its own, and found where they are looked up.
 use mathlib.Core.Path.{_≡_, refl, ap, sym, _∙_, subst}
-use mathlib.Core.Logic.{_↔_, _⊎_, inl, inr}
+use mathlib.Core.Logic.{_⊎_, inl, inr}
 use mathlib.Core.List.{List, [], _∷_, _++_, map, tail-eq-of-cons-eq}
-use mathlib.Core.Bool.{Bool, true, false, _&&_, _||_, not}
+use mathlib.Core.Bool.{Bool, true, false}
 use mathlib.Core.Option.{Option, some, none}
-use Prim.Native.Nat.{ℕ, zero, suc, _+_, _*_, _/_, _%_, _≤_, _<_}
+use Prim.Native.Nat.{ℕ, zero, suc, _+_, _/_, _%_, _≤_, _<_}
 use native.Mathlib.Omega.{arith}
-use lib.Dec.{T, eqb, leb, ltb, le→leb}
-use Rattle.constraint.proofs.Lists.{and-T, or-T, not-T}
+use lib.Dec.{T, leb}
+use Rattle.constraint.proofs.Lists.{and-T, or-T}
 use Rattle.akl.specs.Base.{Name, size, same, among, any, all, repeats, first, last, range, if, _>>=_}
 use Rattle.akl.specs.Limits.{name-bytes}
 use Rattle.akl.specs.Token.{class-of, word-class}
-use Rattle.akl.specs.WellFormed.{is-capital, begins, spelled-variable}
+use Rattle.akl.specs.WellFormed.{spelled-variable}
 use Rattle.texts.specs.Spelled.{Variables}
 use Rattle.texts.specs.Draft.{low-digits, level-name, number-name, power, most-names, level-names, number-names}
 use Rattle.texts.proofs.QueryNames.{same-eq, same-refl}

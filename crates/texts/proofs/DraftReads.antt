@@ -1,18 +1,18 @@
 -- A draft reads as the statement that it is a draft of.
 use mathlib.Core.Path.{_≡_, refl, ap, sym, _∙_, subst}
 use mathlib.Core.List.{List, [], _∷_, _++_, map}
-use mathlib.Core.Bool.{Bool, true, false, _&&_, _||_}
+use mathlib.Core.Bool.{Bool, _&&_, _||_}
 use mathlib.Core.Option.{Option, some, none}
-use Prim.Native.Nat.{ℕ, zero, suc, _+_, _≤_, _<_, max}
+use Prim.Native.Nat.{ℕ, _+_, _≤_}
 use native.Mathlib.Omega.{arith}
 use lib.Dec.{T, leb, ltb, ltb→lt, leb→le}
 use Rattle.constraint.specs.Constraint.{Con, ctrue, cfail, ceq, capp, mapCon}
 use Rattle.constraint.proofs.Lists.{and-T}
 use Rattle.akl.specs.Base.{Name, size, all, first, last}
-use Rattle.akl.specs.Syntax.{Var, number, level, Op, Stmt, atom, call, comp, hide, choice, Clauses, no-more, clause, Def, Program, defined}
-use Rattle.akl.specs.Grammar.{Statement, single, joined, Simple, constraint, program, bracket, Bracket, plain, hiding, choosing, Clause, written, Others, end, and-also, Definition}
+use Rattle.akl.specs.Syntax.{Var, number, level, Op, Stmt, atom, call, comp, hide, choice, Clauses, no-more, clause, Program, defined}
+use Rattle.akl.specs.Grammar.{Statement, single, joined}
 use Rattle.akl.specs.Parse.{unclaused}
-use Rattle.akl.specs.Reader.{operator-of, variable-of, statement-of, simple-of, bracket-of, clause-of, others-of}
+use Rattle.akl.specs.Reader.{variable-of, statement-of, simple-of, bracket-of, others-of}
 use Rattle.akl.specs.Stability.{is-some}
 use Rattle.akl.specs.WellFormed.{variable-fits, few, constraint-fits, statement-fits, clauses-fit, some-clause, spelled-name, spelled-digits}
 use Rattle.texts.specs.Draft.{level-name, number-name, most-names, spell, level-names, number-names, simply, draft, draft-choice, draft-others, widest, clauses-widest}

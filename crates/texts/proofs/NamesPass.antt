@@ -2,19 +2,17 @@
 use mathlib.Core.Path.{_≡_, refl, ap, sym, _∙_, subst}
 use mathlib.Core.Logic.{_↔_, _⊎_, inl, inr}
 use mathlib.Core.List.{List, [], _∷_, _++_, map}
-use mathlib.Core.Bool.{Bool, true, false, _&&_, _||_, not}
+use mathlib.Core.Bool.{Bool, true, false, _&&_, not}
 use mathlib.Core.Option.{Option, some, none}
-use Prim.Native.Nat.{ℕ, zero, suc, _<_, _≤_}
+use Prim.Native.Nat.{ℕ, _<_, _≤_}
 use native.Mathlib.Omega.{arith}
 use lib.Dec.{T, leb, ltb, leb→le, ltb→lt}
 use Rattle.constraint.proofs.Lists.{and-T, or-T, not-T}
-use Rattle.akl.specs.Base.{Name, size, same, among, any, all, flat, repeats, once, least, if, _>>=_, Result, refused, ok}
+use Rattle.akl.specs.Base.{Name, size, same, among, any, all, flat, repeats, once, if, Result, refused}
 use Rattle.akl.specs.Limits.{most-query-variables}
-use Rattle.akl.specs.Syntax.{Stmt, Def, Program}
-use Rattle.akl.specs.Token.{tokens}
+use Rattle.akl.specs.Syntax.{Def, Program}
 use Rattle.akl.specs.Grammar.{Statement}
-use Rattle.akl.specs.Parse.{parse-query}
-use Rattle.akl.specs.Reader.{fault, Around, statement-faults, statement-free, query-variables, statement-of, checked, Query, query-faults}
+use Rattle.akl.specs.Reader.{fault, statement-faults, statement-free, query-variables, statement-of, checked, Query, query-faults}
 use Rattle.akl.specs.WellFormed.{spelled-variable, names-pass}
 use Rattle.texts.specs.Spelled.{SpelledStatement}
 use Rattle.texts.specs.Printing.{query-tokens}

@@ -1,14 +1,14 @@
 -- Where no hidden list is too long, there are names for all variables that are bound around one place: at most 32 lists stand
 -- around it.
-use mathlib.Core.List.{List, [], _∷_}
+use mathlib.Core.List.{[], _∷_}
 use mathlib.Core.Bool.{Bool, true, false, _&&_}
-use Prim.Native.Nat.{ℕ, zero, suc, _+_, _*_, _≤_, max}
+use Prim.Native.Nat.{ℕ, suc, _+_, _*_, _≤_}
 use native.Mathlib.Omega.{arith}
 use lib.Dec.{T, leb, leb→le}
 use Rattle.constraint.proofs.Lists.{and-T}
 use Rattle.akl.specs.Base.{all}
 use Rattle.akl.specs.Limits.{most-depth, most-arguments}
-use Rattle.akl.specs.Syntax.{Op, Stmt, atom, call, comp, hide, choice, Clauses, no-more, clause, Def, Program}
+use Rattle.akl.specs.Syntax.{Stmt, atom, call, comp, hide, choice, Clauses, no-more, clause, Program}
 use Rattle.akl.specs.Parts.{statement-parts, clauses-parts}
 use Rattle.akl.specs.WellFormed.{is-comp, bracketed, depth, clauses-depth, spelled-predicate, statement-passes, definition-passes}
 use Rattle.theory.proofs.Passing.{passes-iff}

@@ -1,14 +1,14 @@
 -- A statement that fits with some numbers free fits with others, if its own are among them.
-use mathlib.Core.Path.{_≡_, refl}
-use mathlib.Core.Logic.{_⊎_, inl, inr}
+use mathlib.Core.Path.{refl}
+use mathlib.Core.Logic.{inl, inr}
 use mathlib.Core.List.{List, [], _∷_, _++_}
-use mathlib.Core.Bool.{Bool, true, false, _&&_, _||_}
-use Prim.Native.Nat.{ℕ, zero, suc, _+_}
-use lib.Dec.{T, leb, ltb}
+use mathlib.Core.Bool.{Bool, _&&_, _||_}
+use Prim.Native.Nat.{ℕ, _+_}
+use lib.Dec.{T, leb}
 use Rattle.constraint.specs.Constraint.{Con, ctrue, cfail, ceq, capp, In}
 use Rattle.constraint.proofs.Lists.{and-T, In-append}
-use Rattle.akl.specs.Base.{Name, size, all}
-use Rattle.akl.specs.Syntax.{Var, number, level, Op, Stmt, atom, call, comp, hide, choice, Clauses, no-more, clause, Program, defined}
+use Rattle.akl.specs.Base.{size, all}
+use Rattle.akl.specs.Syntax.{Var, number, level, Stmt, atom, call, comp, hide, choice, Clauses, no-more, clause, Program, defined}
 use Rattle.akl.specs.Stability.{is-some}
 use Rattle.akl.specs.WellFormed.{variable-fits, few, constraint-fits, statement-fits, clauses-fit, some-clause, spelled-name, spelled-digits, variable-numbers, list-numbers, constraint-numbers, numbers, clauses-numbers}
 

@@ -1,5 +1,5 @@
 -- A tree whose names are spelled as they must be is writable, and so are its tokens spelled.
-use mathlib.Core.Path.{_≡_, refl, ap, sym, _∙_, subst}
+use mathlib.Core.Path.{_≡_, refl, sym, subst}
 use mathlib.Core.Logic.{_⊎_, inl, inr}
 use mathlib.Core.List.{List, [], _∷_}
 use mathlib.Core.Bool.{Bool, true, false, _&&_, _||_, not}
@@ -8,12 +8,12 @@ use Rattle.constraint.specs.Constraint.{Con, ctrue, cfail, ceq, capp}
 use Rattle.constraint.proofs.Lists.{and-T, or-T, not-T}
 use Rattle.akl.specs.Base.{Name, bytes, bytes-from, size, same, all, if}
 use Rattle.akl.specs.Limits.{name-bytes}
-use Rattle.akl.specs.Token.{Class, small, capital, digit, underscore, blank, mark, other, class-of, word-class, digit-class, Token, name, digits, variable, sign, open-bracket, close-bracket, comma, full-stop, colon, defines, equals, semicolon, operator}
+use Rattle.akl.specs.Token.{Class, small, digit, class-of, word-class, digit-class, Token, name, digits, sign, close-bracket, comma, full-stop, colon, defines, operator}
 use Rattle.akl.specs.Grammar.{Statement, single, joined, Simple, constraint, program, bracket, Bracket, plain, hiding, choosing, Clause, written, Others, end, and-also, Definition}
-use Rattle.akl.specs.WellFormed.{is-small, begins, spelled-name, spelled-digits, spelled-variable, spelled-predicate}
-use Rattle.texts.specs.Spelled.{SpelledToken, SpelledTokens, Variables, SpelledCon, SpelledStatement, SpelledSimple, SpelledBracket, SpelledClause, SpelledOthers, SpelledDefinition, SpelledDefinitions}
-use Rattle.texts.specs.Printing.{vars-tokens, arguments-tokens, hidden-tokens, label-token, constraint-tokens, statement-tokens, simple-tokens, bracket-tokens, clause-tokens, others-tokens, query-tokens, definition-tokens, program-tokens}
-use Rattle.texts.specs.Writable.{NotReserved, Writable, WritableSimple, WritableBracket, WritableClause, WritableOthers, WritableDefinition, WritableProgram}
+use Rattle.akl.specs.WellFormed.{is-small, begins, spelled-name, spelled-digits, spelled-predicate}
+use Rattle.texts.specs.Spelled.{SpelledToken, SpelledTokens, Variables, SpelledCon, SpelledStatement, SpelledSimple, SpelledBracket, SpelledClause, SpelledOthers, SpelledDefinitions}
+use Rattle.texts.specs.Printing.{vars-tokens, arguments-tokens, hidden-tokens, label-token, constraint-tokens, statement-tokens, simple-tokens, bracket-tokens, clause-tokens, others-tokens, query-tokens, program-tokens}
+use Rattle.texts.specs.Writable.{NotReserved, Writable, WritableSimple, WritableBracket, WritableClause, WritableOthers, WritableProgram}
 
 -- ---------------------------------------------------------------------------------------------
 -- Writable.

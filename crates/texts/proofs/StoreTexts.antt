@@ -1,21 +1,21 @@
 -- A store is well formed exactly when texts read as its program, its query's names and its statements, and the rest of
 -- document 01's sentence holds.
-use mathlib.Core.Path.{_≡_, refl, ap, sym, _∙_, subst}
-use mathlib.Core.Logic.{_↔_, _⊎_, inl, inr}
+use mathlib.Core.Path.{_≡_, refl, ap, sym, subst}
+use mathlib.Core.Logic.{_↔_, inl, inr}
 use mathlib.Core.List.{List, [], _∷_, _++_, map}
-use mathlib.Core.Bool.{Bool, true, false, _&&_, _||_}
-use Prim.Native.Nat.{ℕ, zero, suc, _+_, _≤_, _<_, max}
+use mathlib.Core.Bool.{_&&_, _||_}
+use Prim.Native.Nat.{ℕ, suc, _≤_}
 use native.Mathlib.Omega.{arith}
 use lib.Dec.{T, leb, leb→le}
-use Rattle.constraint.specs.Constraint.{Con, ctrue, cfail, ceq, capp, mapCon, Store, vars, varsAll, In}
+use Rattle.constraint.specs.Constraint.{Con, ctrue, cfail, ceq, capp, mapCon, Store, vars, varsAll}
 use Rattle.constraint.proofs.Lists.{and-T, In-append}
-use Rattle.akl.specs.Base.{Name, size, all}
-use Rattle.akl.specs.Limits.{last-number, most-depth}
-use Rattle.akl.specs.Syntax.{Var, number, level, Op, Stmt, atom, call, comp, hide, choice, Clauses, no-more, clause, Program}
+use Rattle.akl.specs.Base.{Name, all}
+use Rattle.akl.specs.Limits.{last-number}
+use Rattle.akl.specs.Syntax.{Var, number, Stmt, atom, Program}
 use Rattle.akl.specs.Rules.{number-of, stored}
 use Rattle.akl.specs.Configuration.{Kind, Node, or, and, stmt, choice-box, guard, Nodes, nil, cons, Config}
-use Rattle.akl.specs.Parts.{parts, parts-all, statement-parts, clauses-parts}
-use Rattle.akl.specs.WellFormed.{variable-fits, few, constraint-fits, statement-fits, depth, spelled-name, spelled-digits, statement-passes, program-passes, stored-fits, statements-pass, statements-pass-all, variable-numbers, list-numbers, constraint-numbers, numbers, all-numbers, all-numbers-in, well-formed}
+use Rattle.akl.specs.Parts.{parts, parts-all, statement-parts}
+use Rattle.akl.specs.WellFormed.{variable-fits, few, constraint-fits, statement-fits, depth, spelled-name, spelled-digits, statement-passes, program-passes, stored-fits, statements-pass, statements-pass-all, list-numbers, constraint-numbers, numbers, all-numbers, all-numbers-in, well-formed}
 use Rattle.theory.specs.Scope.{Below}
 use Rattle.theory.specs.Formed.{Formed}
 use Rattle.theory.proofs.Locals.{size-map}
@@ -23,7 +23,7 @@ use Rattle.theory.proofs.Passing.{passes-iff}
 use Rattle.theory.proofs.Closed.{any-number}
 use Rattle.theory.proofs.Reflect.{ok-numbers, formed-iff}
 use Rattle.texts.specs.Draft.{most-names, power, most-hidden, ProgramListsFit}
-use Rattle.texts.specs.Readable.{ProgramText, NamesText, StatementText, StoredText, StoreText, StatementsText, StatementsTextAll}
+use Rattle.texts.specs.Readable.{StatementText, StoredText, StoreText, StatementsText, StatementsTextAll}
 use Rattle.texts.specs.StoreFormed.{StoreFormed}
 use Rattle.texts.proofs.Reading.{statement-in-passes}
 use Rattle.texts.proofs.Narrow.{few-parts}

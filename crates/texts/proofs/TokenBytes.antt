@@ -1,7 +1,7 @@
 -- Tokens that are spelled as they must be, written with a space behind each, are the tokens of that text.
-use mathlib.Core.Path.{_≡_, refl, ap, sym, _∙_, subst}
+use mathlib.Core.Path.{_≡_, refl, ap, _∙_}
 use mathlib.Core.List.{List, [], _∷_, _++_}
-use mathlib.Core.Bool.{Bool, true, false, _&&_, not}
+use mathlib.Core.Bool.{Bool, true, false, _&&_}
 use mathlib.Core.Option.{Option, some, none}
 use Prim.Native.Nat.{ℕ, zero, suc, _+_, _≤_, _<_}
 use native.Mathlib.Omega.{arith}
@@ -9,8 +9,8 @@ use lib.Dec.{T, leb}
 use Rattle.constraint.proofs.Lists.{and-T}
 use Rattle.akl.specs.Base.{Name, size, all, if, _>>=_}
 use Rattle.akl.specs.Limits.{name-bytes}
-use Rattle.akl.specs.Syntax.{Op, wait, cond, commit}
-use Rattle.akl.specs.Token.{Class, small, capital, digit, underscore, blank, mark, other, class-of, word-class, digit-class, Mark, open-bracket, close-bracket, comma, full-stop, colon, defines, equals, semicolon, operator, Token, name, digits, variable, sign, span, fits, Lexed, passed, token, bad, word, followed, marked, lexed, tokens-in, tokens}
+use Rattle.akl.specs.Syntax.{wait, cond, commit}
+use Rattle.akl.specs.Token.{Class, small, capital, digit, blank, class-of, word-class, digit-class, Mark, open-bracket, close-bracket, comma, full-stop, colon, defines, equals, semicolon, operator, Token, name, digits, variable, sign, span, fits, passed, token, bad, word, lexed, tokens-in, tokens}
 use Rattle.akl.specs.WellFormed.{is-small, is-capital, begins, spelled-name, spelled-digits, spelled-variable}
 use Rattle.texts.specs.Spelled.{SpelledToken, SpelledTokens}
 use Rattle.texts.specs.Draft.{mark-bytes, token-bytes, text-of}

@@ -1,34 +1,33 @@
 -- A program, a statement and a list of names pass exactly when some text reads as them: the tests of well-formedness say
 -- what document 01 says, that they "would pass 2 to 7".
 use mathlib.Core.Path.{_≡_, refl, ap, sym, _∙_, subst}
-use mathlib.Core.Logic.{_↔_, _⊎_, inl, inr}
+use mathlib.Core.Logic.{_↔_, inl, inr}
 use mathlib.Core.List.{List, [], _∷_, _++_, map}
-use mathlib.Core.Bool.{Bool, true, false, _&&_, _||_, not}
+use mathlib.Core.Bool.{false, _&&_, not}
 use mathlib.Core.Option.{Option, some, none}
-use Prim.Native.Nat.{ℕ, zero, suc, _+_, _≤_, _<_, max}
+use Prim.Native.Nat.{ℕ, _≤_, _<_}
 use native.Mathlib.Omega.{arith}
-use lib.Dec.{T, eqb, leb, ltb, leb→le, ltb→lt, lt→ltb}
-use Rattle.constraint.specs.Constraint.{In}
+use lib.Dec.{T, leb, ltb, leb→le, ltb→lt, lt→ltb}
 use Rattle.constraint.proofs.Lists.{and-T, not-T}
 use Rattle.akl.specs.Base.{Name, size, repeats, all, flat, least, range, _>>=_, Result, refused, ok}
 use Rattle.akl.specs.Limits.{most-definitions, most-arguments, most-depth}
 use Rattle.akl.specs.Syntax.{Stmt, Def, Program}
-use Rattle.akl.specs.Token.{Token, tokens}
+use Rattle.akl.specs.Token.{tokens}
 use Rattle.akl.specs.Grammar.{Statement, Definition}
 use Rattle.akl.specs.Parse.{parse-query, parse-program}
 use Rattle.akl.specs.Reader.{fault, Around, statement-faults, statement-of, heads, twice, definition-faults, program-faults, definition-of, checked}
-use Rattle.akl.specs.WellFormed.{statement-fits, depth, spelled-variable, spelled-predicate, statement-passes, definition-passes, program-passes, numbers}
+use Rattle.akl.specs.WellFormed.{statement-fits, depth, spelled-predicate, statement-passes, definition-passes, program-passes, numbers}
 use Rattle.theory.specs.Scope.{Below}
 use Rattle.texts.specs.Spelled.{SpelledStatement, SpelledDefinition, SpelledDefinitions}
 use Rattle.texts.specs.Printing.{query-tokens, program-tokens}
 use Rattle.texts.specs.Draft.{most-names, level-names, number-names, draft, draft-definition, widest, program-widest, text-of, ListsFit, ProgramListsFit}
-use Rattle.texts.specs.Readable.{program-of, around-statement, statement-in, ProgramText, NamesText, StatementText}
+use Rattle.texts.specs.Readable.{program-of, around-statement, statement-in, ProgramText, StatementText}
 use Rattle.texts.proofs.QueryNames.{variables-all}
 use Rattle.texts.proofs.PrintsRead.{query-reads, program-reads}
-use Rattle.texts.proofs.Reading.{program-of-passes, query-of-fits, statement-in-passes}
+use Rattle.texts.proofs.Reading.{program-of-passes, statement-in-passes}
 use Rattle.texts.proofs.DraftNames.{levels-differ, numbers-differ, levels-spelled, numbers-spelled, levels-size, numbers-size}
 use Rattle.texts.proofs.DraftReads.{below, draft-reads}
-use Rattle.texts.proofs.DraftFaults.{none-both, fault-none, widest-least, heads-of, Stands, draft-fine}
+use Rattle.texts.proofs.DraftFaults.{none-both, fault-none, widest-least, heads-of, draft-fine}
 use Rattle.texts.proofs.DraftSpelled.{Predicates, predicates, draft-spelled}
 use Rattle.texts.proofs.SpelledPrints.{spelled-writable, program-writable, query-tokens-spelled, program-tokens-spelled}
 use Rattle.texts.proofs.TokenBytes.{text-tokens}

@@ -1,13 +1,12 @@
 -- A text for each statement and each program that passes: bound variables are named by their levels, the others by their
 -- numbers, and a bracket that says nothing stands only around a composition that is the left part of one.
 use mathlib.Core.List.{List, [], _∷_, _++_, map}
-use mathlib.Core.Option.{Option, some, none}
 use Prim.Native.Nat.{ℕ, zero, suc, _+_, _*_, _/_, _%_, _≤_, max}
-use Rattle.constraint.specs.Constraint.{Con, ctrue, ceq, mapCon}
+use Rattle.constraint.specs.Constraint.{ctrue, ceq, mapCon}
 use Rattle.akl.specs.Base.{Name, range}
 use Rattle.akl.specs.Syntax.{Var, number, level, Op, wait, cond, commit, Stmt, atom, call, comp, hide, choice, Clauses, no-more, clause, Def, Program}
 use Rattle.akl.specs.Token.{Token, name, digits, variable, sign, Mark, open-bracket, close-bracket, comma, full-stop, colon, defines, equals, semicolon, operator}
-use Rattle.akl.specs.Grammar.{Statement, single, joined, Simple, constraint, program, bracket, Bracket, plain, hiding, choosing, Clause, written, Others, end, and-also, Definition}
+use Rattle.akl.specs.Grammar.{Statement, single, joined, Simple, constraint, program, bracket, Bracket, plain, choosing, written, Others, end, and-also, Definition}
 use Rattle.akl.specs.Parse.{unclaused}
 
 -- ---------------------------------------------------------------------------------------------

@@ -1,5 +1,4 @@
 -- The depth of a tree as written: how far its brackets nest, plain ones too, round signs of arguments not.
-use mathlib.Core.List.{List}
 use Prim.Native.Nat.{ℕ, suc, max}
 use Rattle.akl.specs.Grammar.{Statement, single, joined, Simple, constraint, program, bracket, Bracket, plain, hiding, choosing, Clause, written, Others, end, and-also}
 

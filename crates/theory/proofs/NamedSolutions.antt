@@ -1,26 +1,26 @@
 -- Solutions labelled with names are the same, whether hidden variables and locals range over all trees or over those labelled
 -- with names.
 use mathlib.Core.Path.{_≡_, refl, ap, sym, _∙_, subst}
-use mathlib.Core.Logic.{_↔_, _⊎_, inl, inr}
+use mathlib.Core.Logic.{_↔_, inl, inr}
 use mathlib.Core.List.{List, [], _∷_, _++_, map}
-use mathlib.Core.Bool.{Bool, true, false, _&&_, _||_}
-use mathlib.Core.Option.{Option, some, none}
-use Prim.Native.Nat.{ℕ, zero, suc, _+_, _≤_, _<_}
+use mathlib.Core.Bool.{Bool, false, _&&_, _||_}
+use mathlib.Core.Option.{Option, some}
+use Prim.Native.Nat.{ℕ, zero, suc, _+_, _<_}
 use native.Mathlib.Omega.{arith}
 use lib.ListN.{getD}
-use lib.Dec.{T, leb, ltb, ltb→lt}
-use Rattle.constraint.specs.Tree.{Label, Tree, Forest, node, fnil, fcons}
-use Rattle.constraint.specs.Constraint.{Con, ctrue, cfail, ceq, capp, Store, Asg, trees, Sat, Sats, In, Off}
+use lib.Dec.{T, leb, ltb→lt}
+use Rattle.constraint.specs.Tree.{Tree, node, fcons}
+use Rattle.constraint.specs.Constraint.{Con, ctrue, cfail, ceq, capp, Asg, trees, Sat}
 use Rattle.constraint.proofs.Lists.{and-T}
 use Rattle.akl.specs.Base.{Name, size, all}
-use Rattle.akl.specs.Syntax.{Var, number, level, Stmt, atom, call, comp, hide, choice, Clauses, no-more, clause, Program, defined}
-use Rattle.akl.specs.Configuration.{Kind, goal, Node, or, and, stmt, choice-box, guard, Nodes, nil, cons, Config}
+use Rattle.akl.specs.Syntax.{Var, number, level, Stmt, atom, call, comp, hide, choice, Clauses, clause, Program, defined}
+use Rattle.akl.specs.Configuration.{Kind, Node, or, and, stmt, choice-box, guard, Nodes, nil, cons, Config}
 use Rattle.akl.specs.Reader.{Query}
 use Rattle.akl.specs.Stability.{is-some}
-use Rattle.akl.specs.WellFormed.{variable-fits, few, constraint-fits, statement-fits, clauses-fit, some-clause, spelled-name, spelled-digits, statement-passes, program-passes, stored-fits, statements-pass, statements-pass-all, depth, numbers}
-use Rattle.theory.specs.Meaning.{leaf, look, Model, Holds, Some, BodyHolds, Unfolded, Atoms, hidden-locals, nothing, HoldsWith, All, Any, Solution, QuerySolution}
+use Rattle.akl.specs.WellFormed.{variable-fits, few, constraint-fits, statement-fits, clauses-fit, some-clause, spelled-name, spelled-digits, statement-passes, program-passes, stored-fits, statements-pass, statements-pass-all, depth}
+use Rattle.theory.specs.Meaning.{leaf, look, Model, Holds, Some, BodyHolds, Unfolded, Atoms, nothing, HoldsWith, All, Any, Solution, QuerySolution}
 use Rattle.theory.specs.Formed.{QueryFits}
-use Rattle.theory.specs.Named.{like-name, like-digits, NamedTree, NamedAsg, NamedStore}
+use Rattle.theory.specs.Named.{like-name, like-digits, NamedAsg}
 use Rattle.theory.specs.NamedMeaning.{NamedTrees, NamedHolds, NamedSome, named-leaf, NamedBodyHolds, NamedUnfolded, NamedAtoms, NamedHoldsWith, NamedAll, NamedAny, NamedSolution, NamedQuerySolution}
 use Rattle.theory.proofs.Statements.{holds-on}
 use Rattle.theory.proofs.Locals.{size-map, size-append}

@@ -1,17 +1,17 @@
 -- Whether trees are labelled with names or with any list of numbers, the same stores are satisfiable and quiet, and the same
 -- trees labelled with names satisfy a store with some choice of values.
 use mathlib.Core.Path.{_≡_, refl, ap, sym, _∙_, subst}
-use mathlib.Core.Logic.{_↔_, _⊎_, inl, inr}
-use mathlib.Core.List.{List, [], _∷_, _++_}
+use mathlib.Core.Logic.{_↔_, inl, inr}
+use mathlib.Core.List.{List, [], _∷_}
 use mathlib.Core.Bool.{Bool, true, false, _&&_, _||_}
-use Prim.Native.Nat.{ℕ, zero, suc, _+_, _≤_, _<_, max}
+use Prim.Native.Nat.{ℕ, zero, suc, _≤_, _<_, max}
 use native.Mathlib.Omega.{arith}
 use lib.Dec.{T, eqb, leb, leb→le, le→leb}
 use Rattle.constraint.specs.Tree.{Label, Tree, Forest, node, fnil, fcons}
-use Rattle.constraint.specs.Constraint.{Con, ctrue, cfail, ceq, capp, Store, Asg, trees, Sat, Sats, In, Off, Satisfiable, Quiet}
+use Rattle.constraint.specs.Constraint.{Con, ctrue, cfail, ceq, capp, Store, Asg, trees, Sat, Sats, Off, Satisfiable, Quiet}
 use Rattle.constraint.proofs.Lists.{and-T, or-T}
 use Rattle.akl.specs.Base.{size, all, if}
-use Rattle.akl.specs.Token.{class-of, word-class, digit-class}
+use Rattle.akl.specs.Token.{class-of, word-class}
 use Rattle.akl.specs.Limits.{name-bytes}
 use Rattle.akl.specs.WellFormed.{is-small, begins, spelled-name, spelled-digits, few, stored-fits}
 use Rattle.theory.specs.Named.{like-name, like-digits, a-name?, Named, NamedTree, NamedForest, NamedAsg, NamedCon, NamedStore, NamedSatisfiable, NamedChoice, NamedQuiet}

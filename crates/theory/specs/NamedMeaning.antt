@@ -7,7 +7,7 @@ use mathlib.Core.Option.{Option, some, none}
 use Prim.Native.Nat.{ℕ, zero, suc}
 use Rattle.constraint.specs.Tree.{Tree, node, fnil}
 use Rattle.constraint.specs.Constraint.{Asg, Sat, Sats, Off}
-use Rattle.akl.specs.Base.{Name, size}
+use Rattle.akl.specs.Base.{size}
 use Rattle.akl.specs.Syntax.{Stmt, atom, call, comp, hide, choice, Clauses, no-more, clause, Program, defined}
 use Rattle.akl.specs.Configuration.{Kind, Node, or, and, stmt, choice-box, guard, Nodes, nil, cons, Config}
 use Rattle.akl.specs.Reader.{Query}
