@@ -14,7 +14,7 @@ use Rattle.akl.specs.Token.{class-of, word-class}
 use Rattle.akl.specs.WellFormed.{spelled-variable}
 use Rattle.texts.specs.Spelled.{Variables}
 use Rattle.texts.specs.Draft.{low-digits, level-name, number-name, power, most-names, level-names, number-names}
-use Rattle.texts.proofs.QueryNames.{same-eq, same-refl}
+use Rattle.akl.proofs.Names.{same-eq-T as same-eq, same-refl-T as same-refl}
 use Rattle.theory.proofs.Locals.{size-map, size-range}
 
 -- ---------------------------------------------------------------------------------------------

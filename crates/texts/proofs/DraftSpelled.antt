@@ -18,7 +18,7 @@ use Rattle.akl.specs.WellFormed.{variable-fits, few, constraint-fits, statement
 use Rattle.texts.specs.Spelled.{Variables, SpelledCon, SpelledStatement, SpelledSimple, SpelledBracket, SpelledOthers}
 use Rattle.texts.specs.Draft.{spell, level-names, simply, draft, draft-choice, draft-others}
 use Rattle.texts.proofs.DraftNames.{level-spelled, number-spelled, levels-spelled}
-use Rattle.texts.proofs.QueryNames.{same-eq}
+use Rattle.akl.proofs.Names.{same-eq-T as same-eq}
 
 -- what is defined in a program that passes is named as a predicate
 abbrev pub Predicates : Program → Type 0

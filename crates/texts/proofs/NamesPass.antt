@@ -18,7 +18,7 @@ use Rattle.texts.specs.Spelled.{SpelledStatement}
 use Rattle.texts.specs.Printing.{query-tokens}
 use Rattle.texts.specs.Draft.{naming, text-of}
 use Rattle.texts.specs.Readable.{query-of, NamesText}
-use Rattle.texts.proofs.QueryNames.{same-eq, same-refl}
+use Rattle.akl.proofs.Names.{same-eq-T as same-eq, same-refl-T as same-refl}
 use Rattle.texts.proofs.Reading.{query-of-fits}
 use Rattle.texts.proofs.DraftFaults.{none-both, fault-none}
 use Rattle.texts.proofs.WouldPass.{checked-none, statement-tree}

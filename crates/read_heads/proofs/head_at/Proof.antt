@@ -34,7 +34,7 @@ enum-known-p : tie.Need-enum-known-p
 enum-known-p c = search needs
 
 same-length : tie.Need-same-length
-same-length c = search needs
+same-length c = c .before .before .before .before .before .before .before .before .before .before .before .definition-end .kept .1 .0
 
 returns : tie.Need-returns
 returns c = one-many (triples (c .before .before .before .before .before .before .before .before .before .before .before .before .before .before .before .args .codes .now)) (c .before .before .before .before .before .before .before .before .before .before .before .before .before .before .before .args .stack .now) (c .before .before .before .before .before .before .before .before .before .before .before .before .before .before .before .args .at) (c .before .before .before .before .before .before .before .e .given .0 .0) (c .before .before .before .before .before .before .before .before .before .before .before .before .before .before .before .pre) (subst (DefinitionTo (triples (c .before .before .before .before .before .before .before .before .before .before .before .before .before .before .before .args .codes .now)) (c .before .before .before .before .before .before .before .before .before .before .before .before .before .before .before .args .stack .now) (c .before .before .before .before .before .before .before .before .before .before .before .before .before .before .before .args .at)) (c .before .before .before .before .before .before .before .e .given .1) (c .before .before .before .before .before .before .before .before .before .before .before .definition-end .ensures)) (c .before .before .before .before .before .number-at .result) (c .before .before .before .before .before .number-at .ensures) (c .before .before .p .given .0 .0) (c .before .before .p .given .0 .1 .0) (subst (ArgumentsTo (triples (c .before .before .before .before .before .before .before .before .before .before .before .before .before .before .before .args .codes .now)) (c .before .before .before .before .before .before .before .before .before .before .before .before .before .before .before .args .at + 1)) (c .before .before .p .given .1) (c .before .before .before .before .arguments-end .ensures)) (omega arith)
@@ -55,25 +55,25 @@ enum-told-3 : tie.Need-enum-told-3
 enum-told-3 c = search needs
 
 same-length-2 : tie.Need-same-length-2
-same-length-2 c = search needs
+same-length-2 c = c .before .before .before .before .before .before .before .before .before .before .before .definition-end .kept .1 .0
 
 returns-2 : tie.Need-returns-2
 returns-2 c = one-head (triples (c .before .before .before .before .before .before .before .before .before .before .before .before .before .before .before .args .codes .now)) (c .before .before .before .before .before .before .before .before .before .before .before .before .before .before .before .args .stack .now) (c .before .before .before .before .before .before .before .before .before .before .before .before .before .before .before .args .at) (c .before .before .before .before .before .before .before .e .given .0 .0) (c .before .before .before .before .before .before .before .before .before .before .before .before .before .before .before .pre) (subst (DefinitionTo (triples (c .before .before .before .before .before .before .before .before .before .before .before .before .before .before .before .args .codes .now)) (c .before .before .before .before .before .before .before .before .before .before .before .before .before .before .before .args .stack .now) (c .before .before .before .before .before .before .before .before .before .before .before .before .before .before .before .args .at)) (c .before .before .before .before .before .before .before .e .given .1) (c .before .before .before .before .before .before .before .before .before .before .before .definition-end .ensures)) (c .before .before .before .before .before .number-at .result) (c .before .before .before .before .before .number-at .ensures) (c .before .before .p .given .0 .0) (c .before .before .p .given .0 .1 .0) (subst (ArgumentsTo (triples (c .before .before .before .before .before .before .before .before .before .before .before .before .before .before .before .args .codes .now)) (c .before .before .before .before .before .before .before .before .before .before .before .before .before .before .before .args .at + 1)) (c .before .before .p .given .1) (c .before .before .before .before .arguments-end .ensures)) (omega arith)
 
 same-length-3 : tie.Need-same-length-3
-same-length-3 c = search needs
+same-length-3 c = c .before .before .before .before .before .before .before .before .before .definition-end .kept .1 .0
 
 returns-3 : tie.Need-returns-3
 returns-3 c = one-odd (triples (c .before .before .before .before .before .before .before .before .before .before .before .before .before .args .codes .now)) (c .before .before .before .before .before .before .before .before .before .before .before .before .before .args .stack .now) (c .before .before .before .before .before .before .before .before .before .before .before .before .before .args .at) (c .before .before .before .before .before .e .given .0 .0) (c .before .before .before .before .before .before .before .before .before .before .before .before .before .pre) (subst (DefinitionTo (triples (c .before .before .before .before .before .before .before .before .before .before .before .before .before .args .codes .now)) (c .before .before .before .before .before .before .before .before .before .before .before .before .before .args .stack .now) (c .before .before .before .before .before .before .before .before .before .before .before .before .before .args .at)) (c .before .before .before .before .before .e .given .1) (c .before .before .before .before .before .before .before .before .before .definition-end .ensures)) (c .before .before .before .number-at .result) (c .before .before .before .number-at .ensures) (subst (ArgumentsTo (triples (c .before .before .before .before .before .before .before .before .before .before .before .before .before .args .codes .now)) (c .before .before .before .before .before .before .before .before .before .before .before .before .before .args .at + 1)) (c .enum-told .given .1) (c .before .before .arguments-end .ensures))
 
 same-length-4 : tie.Need-same-length-4
-same-length-4 c = search needs
+same-length-4 c = c .before .before .before .before .definition-end .kept .1 .0
 
 returns-4 : tie.Need-returns-4
 returns-4 c = subst (DefinitionTo (triples (c .before .before .before .before .before .before .before .before .args .codes .now)) (c .before .before .before .before .before .before .before .before .args .stack .now) (c .before .before .before .before .before .before .before .before .args .at)) (c .enum-told2 .given .1) (c .before .before .before .before .definition-end .ensures)
 
 same-length-5 : tie.Need-same-length-5
-same-length-5 c = search needs
+same-length-5 c = c .before .before .before .before .definition-end .kept .1 .0
 
 returns-5 : tie.Need-returns-5
 returns-5 c = subst (DefinitionTo (triples (c .before .before .before .before .before .before .before .before .args .codes .now)) (c .before .before .before .before .before .before .before .before .args .stack .now) (c .before .before .before .before .before .before .before .before .args .at)) (c .enum-told3 .given .1) (c .before .before .before .before .definition-end .ensures)

@@ -235,7 +235,7 @@ bracket-same-length : (t : ℕ) → bracket-lts.Need-same-length (
   others-below t,
   others.Post,
 ) (bracket-at t) bracket.Post
-bracket-same-length t c = search needs
+bracket-same-length t c = c .before .before .before .slots .kept .0
 
 bracket-returns : (t : ℕ) → bracket-lts.Need-returns (
   hidden-end-reads.Asked,
@@ -355,7 +355,7 @@ bracket-same-length-2 : (t : ℕ) → bracket-lts.Need-same-length-2 (
   others-below t,
   others.Post,
 ) (bracket-at t) bracket.Post
-bracket-same-length-2 t c = search needs
+bracket-same-length-2 t c = c .before .before .before .before .before .before .before .before .before .before .before .before .slots .kept .0
 
 bracket-same-length-3 : (t : ℕ) → bracket-lts.Need-same-length-3 (
   hidden-end-reads.Asked,
@@ -385,7 +385,7 @@ bracket-same-length-3 : (t : ℕ) → bracket-lts.Need-same-length-3 (
   others-below t,
   others.Post,
 ) (bracket-at t) bracket.Post
-bracket-same-length-3 t c = search needs
+bracket-same-length-3 t c = c .before .before .before .before .before .before .bind .kept .1 .1 .1 .0
 
 bracket-same-length-4 : (t : ℕ) → bracket-lts.Need-same-length-4 (
   hidden-end-reads.Asked,
@@ -415,7 +415,7 @@ bracket-same-length-4 : (t : ℕ) → bracket-lts.Need-same-length-4 (
   others-below t,
   others.Post,
 ) (bracket-at t) bracket.Post
-bracket-same-length-4 t c = search needs
+bracket-same-length-4 t c = c .before .before .before .before .before .before .bind .kept .1 .1 .1 .1 .0
 
 bracket-returns-2 : (t : ℕ) → bracket-lts.Need-returns-2 (
   hidden-end-reads.Asked,
@@ -775,7 +775,7 @@ bracket-same-length-8 : (t : ℕ) → bracket-lts.Need-same-length-8 (
   others-below t,
   others.Post,
 ) (bracket-at t) bracket.Post
-bracket-same-length-8 t c = search needs
+bracket-same-length-8 t c = c .before .before .before .before .before .before .before .before .before .before .before .before .before .before .before .before .before .before .before .before .statement .kept .1 .1 .1 .1 .1 .1 .0
 
 bracket-returns-3 : (t : ℕ) → bracket-lts.Need-returns-3 (
   hidden-end-reads.Asked,
@@ -985,7 +985,7 @@ bracket-same-length-12 : (t : ℕ) → bracket-lts.Need-same-length-12 (
   others-below t,
   others.Post,
 ) (bracket-at t) bracket.Post
-bracket-same-length-12 t c = search needs
+bracket-same-length-12 t c = c .before .before .before .before .before .before .before .before .before .before .before .before .before .before .before .before .before .before .before .before .before .before .before .before .before .before .before .before .before .statement .kept .1 .1 .1 .1 .1 .1 .0
 
 bracket-returns-4 : (t : ℕ) → bracket-lts.Need-returns-4 (
   hidden-end-reads.Asked,
@@ -1195,7 +1195,7 @@ bracket-same-length-16 : (t : ℕ) → bracket-lts.Need-same-length-16 (
   others-below t,
   others.Post,
 ) (bracket-at t) bracket.Post
-bracket-same-length-16 t c = search needs
+bracket-same-length-16 t c = c .before .before .before .before .before .before .before .before .before .before .before .before .before .before .before .before .before .before .before .before .before .before .before .before .before .before .before .before .before .before .statement .kept .1 .1 .1 .1 .1 .1 .0
 
 bracket-returns-5 : (t : ℕ) → bracket-lts.Need-returns-5 (
   hidden-end-reads.Asked,
@@ -3445,7 +3445,7 @@ bracket-same-length-56 : (t : ℕ) → bracket-lts.Need-same-length-56 (
   others-below t,
   others.Post,
 ) (bracket-at t) bracket.Post
-bracket-same-length-56 t c = search needs
+bracket-same-length-56 t c = c .before .before .before .before .before .before .before .before .before .before .statement .kept .1 .1 .1 .1 .1 .1 .0
 
 bracket-returns-15 : (t : ℕ) → bracket-lts.Need-returns-15 (
   hidden-end-reads.Asked,
@@ -3595,7 +3595,7 @@ bracket-same-length-60 : (t : ℕ) → bracket-lts.Need-same-length-60 (
   others-below t,
   others.Post,
 ) (bracket-at t) bracket.Post
-bracket-same-length-60 t c = search needs
+bracket-same-length-60 t c = c .before .before .before .before .before .before .before .before .before .before .statement .kept .1 .1 .1 .1 .1 .1 .0
 
 bracket-returns-16 : (t : ℕ) → bracket-lts.Need-returns-16 (
   hidden-end-reads.Asked,
@@ -3745,7 +3745,7 @@ bracket-same-length-64 : (t : ℕ) → bracket-lts.Need-same-length-64 (
   others-below t,
   others.Post,
 ) (bracket-at t) bracket.Post
-bracket-same-length-64 t c = search needs
+bracket-same-length-64 t c = c .before .before .before .before .before .before .before .before .before .before .statement .kept .1 .1 .1 .1 .1 .1 .0
 
 bracket-returns-17 : (t : ℕ) → bracket-lts.Need-returns-17 (
   hidden-end-reads.Asked,
@@ -3909,7 +3909,7 @@ clause-same-length : (t : ℕ) → clause-lts.Need-same-length (
   mixes-reads.Asked,
   mixes-reads.Learnt,
 ) (clause-at t) clause.Post
-clause-same-length t c = search needs
+clause-same-length t c = c .before .before .before .open-clause .kept .0
 
 clause-returns : (t : ℕ) → clause-lts.Need-returns (
   hidden-end-reads.Asked,
@@ -4013,7 +4013,7 @@ clause-same-length-2 : (t : ℕ) → clause-lts.Need-same-length-2 (
   mixes-reads.Asked,
   mixes-reads.Learnt,
 ) (clause-at t) clause.Post
-clause-same-length-2 t c = search needs
+clause-same-length-2 t c = c .before .before .before .before .before .before .before .before .before .before .before .before .open-clause .kept .0
 
 clause-same-length-3 : (t : ℕ) → clause-lts.Need-same-length-3 (
   hidden-end-reads.Asked,
@@ -4039,7 +4039,7 @@ clause-same-length-3 : (t : ℕ) → clause-lts.Need-same-length-3 (
   mixes-reads.Asked,
   mixes-reads.Learnt,
 ) (clause-at t) clause.Post
-clause-same-length-3 t c = search needs
+clause-same-length-3 t c = c .before .before .before .before .before .before .bind .kept .1 .1 .1 .0
 
 clause-same-length-4 : (t : ℕ) → clause-lts.Need-same-length-4 (
   hidden-end-reads.Asked,
@@ -4065,7 +4065,7 @@ clause-same-length-4 : (t : ℕ) → clause-lts.Need-same-length-4 (
   mixes-reads.Asked,
   mixes-reads.Learnt,
 ) (clause-at t) clause.Post
-clause-same-length-4 t c = search needs
+clause-same-length-4 t c = c .before .before .before .before .before .before .bind .kept .1 .1 .1 .1 .0
 
 clause-returns-2 : (t : ℕ) → clause-lts.Need-returns-2 (
   hidden-end-reads.Asked,
@@ -4351,7 +4351,7 @@ clause-same-length-8 : (t : ℕ) → clause-lts.Need-same-length-8 (
   mixes-reads.Asked,
   mixes-reads.Learnt,
 ) (clause-at t) clause.Post
-clause-same-length-8 t c = search needs
+clause-same-length-8 t c = c .before .before .before .before .before .before .before .before .before .before .before .before .before .before .statement .kept .1 .1 .1 .1 .1 .1 .0
 
 clause-returns-3 : (t : ℕ) → clause-lts.Need-returns-3 (
   hidden-end-reads.Asked,
@@ -5599,7 +5599,7 @@ clause-same-length-32 : (t : ℕ) → clause-lts.Need-same-length-32 (
   mixes-reads.Asked,
   mixes-reads.Learnt,
 ) (clause-at t) clause.Post
-clause-same-length-32 t c = search needs
+clause-same-length-32 t c = c .before .before .before .before .before .before .before .before .before .before .statement .kept .1 .1 .1 .1 .1 .1 .0
 
 clause-returns-9 : (t : ℕ) → clause-lts.Need-returns-9 (
   hidden-end-reads.Asked,
@@ -5729,7 +5729,7 @@ clause-same-length-36 : (t : ℕ) → clause-lts.Need-same-length-36 (
   mixes-reads.Asked,
   mixes-reads.Learnt,
 ) (clause-at t) clause.Post
-clause-same-length-36 t c = search needs
+clause-same-length-36 t c = c .before .before .before .before .before .before .before .before .before .before .statement .kept .1 .1 .1 .1 .1 .1 .0
 
 clause-returns-10 : (t : ℕ) → clause-lts.Need-returns-10 (
   hidden-end-reads.Asked,
@@ -5859,7 +5859,7 @@ clause-same-length-40 : (t : ℕ) → clause-lts.Need-same-length-40 (
   mixes-reads.Asked,
   mixes-reads.Learnt,
 ) (clause-at t) clause.Post
-clause-same-length-40 t c = search needs
+clause-same-length-40 t c = c .before .before .before .before .before .before .before .before .before .before .statement .kept .1 .1 .1 .1 .1 .1 .0
 
 clause-returns-11 : (t : ℕ) → clause-lts.Need-returns-11 (
   hidden-end-reads.Asked,
@@ -6395,7 +6395,7 @@ simple-same-length : (t : ℕ) → simple-lts.Need-same-length (
   kind-at-reads.Asked,
   kind-at-reads.Learnt,
 ) (simple-at t) simple.Post
-simple-same-length t c = search needs
+simple-same-length t c = c .before .before .before .before .before .before .before .before .before .before .before .before .before .bracket .kept .1 .1 .1 .0
 
 simple-same-length-2 : (t : ℕ) → simple-lts.Need-same-length-2 (
   simple-at-reads.Asked,
@@ -6409,7 +6409,7 @@ simple-same-length-2 : (t : ℕ) → simple-lts.Need-same-length-2 (
   kind-at-reads.Asked,
   kind-at-reads.Learnt,
 ) (simple-at t) simple.Post
-simple-same-length-2 t c = search needs
+simple-same-length-2 t c = c .before .before .before .before .before .before .before .before .before .before .before .before .before .bracket .kept .1 .1 .1 .1 .0
 
 simple-same-length-3 : (t : ℕ) → simple-lts.Need-same-length-3 (
   simple-at-reads.Asked,
@@ -6423,7 +6423,7 @@ simple-same-length-3 : (t : ℕ) → simple-lts.Need-same-length-3 (
   kind-at-reads.Asked,
   kind-at-reads.Learnt,
 ) (simple-at t) simple.Post
-simple-same-length-3 t c = search needs
+simple-same-length-3 t c = c .before .before .before .before .before .before .before .before .before .before .before .before .before .bracket .kept .1 .1 .1 .1 .1 .0
 
 simple-same-length-4 : (t : ℕ) → simple-lts.Need-same-length-4 (
   simple-at-reads.Asked,
@@ -6437,7 +6437,7 @@ simple-same-length-4 : (t : ℕ) → simple-lts.Need-same-length-4 (
   kind-at-reads.Asked,
   kind-at-reads.Learnt,
 ) (simple-at t) simple.Post
-simple-same-length-4 t c = search needs
+simple-same-length-4 t c = c .before .before .before .before .before .before .before .before .before .before .before .before .before .bracket .kept .1 .1 .1 .1 .1 .1 .0
 
 simple-returns-2 : (t : ℕ) → simple-lts.Need-returns-2 (
   simple-at-reads.Asked,
@@ -6535,7 +6535,7 @@ simple-same-length-5 : (t : ℕ) → simple-lts.Need-same-length-5 (
   kind-at-reads.Asked,
   kind-at-reads.Learnt,
 ) (simple-at t) simple.Post
-simple-same-length-5 t c = search needs
+simple-same-length-5 t c = c .before .before .before .before .constraint .kept .1 .1 .0
 
 simple-same-length-6 : (t : ℕ) → simple-lts.Need-same-length-6 (
   simple-at-reads.Asked,
@@ -6549,7 +6549,7 @@ simple-same-length-6 : (t : ℕ) → simple-lts.Need-same-length-6 (
   kind-at-reads.Asked,
   kind-at-reads.Learnt,
 ) (simple-at t) simple.Post
-simple-same-length-6 t c = search needs
+simple-same-length-6 t c = refl
 
 simple-same-length-7 : (t : ℕ) → simple-lts.Need-same-length-7 (
   simple-at-reads.Asked,
@@ -6563,7 +6563,7 @@ simple-same-length-7 : (t : ℕ) → simple-lts.Need-same-length-7 (
   kind-at-reads.Asked,
   kind-at-reads.Learnt,
 ) (simple-at t) simple.Post
-simple-same-length-7 t c = search needs
+simple-same-length-7 t c = c .before .before .before .before .constraint .kept .1 .1 .1 .1 .0
 
 simple-returns-3 : (t : ℕ) → simple-lts.Need-returns-3 (
   simple-at-reads.Asked,
@@ -6591,7 +6591,7 @@ simple-same-length-8 : (t : ℕ) → simple-lts.Need-same-length-8 (
   kind-at-reads.Asked,
   kind-at-reads.Learnt,
 ) (simple-at t) simple.Post
-simple-same-length-8 t c = search needs
+simple-same-length-8 t c = c .before .before .before .before .program .kept .1 .1 .1 .0
 
 simple-same-length-9 : (t : ℕ) → simple-lts.Need-same-length-9 (
   simple-at-reads.Asked,
@@ -6605,7 +6605,7 @@ simple-same-length-9 : (t : ℕ) → simple-lts.Need-same-length-9 (
   kind-at-reads.Asked,
   kind-at-reads.Learnt,
 ) (simple-at t) simple.Post
-simple-same-length-9 t c = search needs
+simple-same-length-9 t c = refl
 
 simple-same-length-10 : (t : ℕ) → simple-lts.Need-same-length-10 (
   simple-at-reads.Asked,
@@ -6619,7 +6619,7 @@ simple-same-length-10 : (t : ℕ) → simple-lts.Need-same-length-10 (
   kind-at-reads.Asked,
   kind-at-reads.Learnt,
 ) (simple-at t) simple.Post
-simple-same-length-10 t c = search needs
+simple-same-length-10 t c = c .before .before .before .before .program .kept .1 .1 .1 .1 .1 .0
 
 simple-returns-4 : (t : ℕ) → simple-lts.Need-returns-4 (
   simple-at-reads.Asked,
@@ -6647,7 +6647,7 @@ simple-same-length-11 : (t : ℕ) → simple-lts.Need-same-length-11 (
   kind-at-reads.Asked,
   kind-at-reads.Learnt,
 ) (simple-at t) simple.Post
-simple-same-length-11 t c = search needs
+simple-same-length-11 t c = c .before .before .before .before .before .before .before .before .before .before .before .before .before .bracket .kept .1 .1 .1 .0
 
 simple-same-length-12 : (t : ℕ) → simple-lts.Need-same-length-12 (
   simple-at-reads.Asked,
@@ -6661,7 +6661,7 @@ simple-same-length-12 : (t : ℕ) → simple-lts.Need-same-length-12 (
   kind-at-reads.Asked,
   kind-at-reads.Learnt,
 ) (simple-at t) simple.Post
-simple-same-length-12 t c = search needs
+simple-same-length-12 t c = c .before .before .before .before .before .before .before .before .before .before .before .before .before .bracket .kept .1 .1 .1 .1 .0
 
 simple-same-length-13 : (t : ℕ) → simple-lts.Need-same-length-13 (
   simple-at-reads.Asked,
@@ -6675,7 +6675,7 @@ simple-same-length-13 : (t : ℕ) → simple-lts.Need-same-length-13 (
   kind-at-reads.Asked,
   kind-at-reads.Learnt,
 ) (simple-at t) simple.Post
-simple-same-length-13 t c = search needs
+simple-same-length-13 t c = c .before .before .before .before .before .before .before .before .before .before .before .before .before .bracket .kept .1 .1 .1 .1 .1 .0
 
 simple-same-length-14 : (t : ℕ) → simple-lts.Need-same-length-14 (
   simple-at-reads.Asked,
@@ -6689,7 +6689,7 @@ simple-same-length-14 : (t : ℕ) → simple-lts.Need-same-length-14 (
   kind-at-reads.Asked,
   kind-at-reads.Learnt,
 ) (simple-at t) simple.Post
-simple-same-length-14 t c = search needs
+simple-same-length-14 t c = c .before .before .before .before .before .before .before .before .before .before .before .before .before .bracket .kept .1 .1 .1 .1 .1 .1 .0
 
 simple-returns-5 : (t : ℕ) → simple-lts.Need-returns-5 (
   simple-at-reads.Asked,
@@ -6717,7 +6717,7 @@ simple-same-length-15 : (t : ℕ) → simple-lts.Need-same-length-15 (
   kind-at-reads.Asked,
   kind-at-reads.Learnt,
 ) (simple-at t) simple.Post
-simple-same-length-15 t c = search needs
+simple-same-length-15 t c = c .before .before .before .before .before .before .before .before .before .before .bracket .kept .1 .1 .1 .0
 
 simple-same-length-16 : (t : ℕ) → simple-lts.Need-same-length-16 (
   simple-at-reads.Asked,
@@ -6731,7 +6731,7 @@ simple-same-length-16 : (t : ℕ) → simple-lts.Need-same-length-16 (
   kind-at-reads.Asked,
   kind-at-reads.Learnt,
 ) (simple-at t) simple.Post
-simple-same-length-16 t c = search needs
+simple-same-length-16 t c = c .before .before .before .before .before .before .before .before .before .before .bracket .kept .1 .1 .1 .1 .0
 
 simple-same-length-17 : (t : ℕ) → simple-lts.Need-same-length-17 (
   simple-at-reads.Asked,
@@ -6745,7 +6745,7 @@ simple-same-length-17 : (t : ℕ) → simple-lts.Need-same-length-17 (
   kind-at-reads.Asked,
   kind-at-reads.Learnt,
 ) (simple-at t) simple.Post
-simple-same-length-17 t c = search needs
+simple-same-length-17 t c = c .before .before .before .before .before .before .before .before .before .before .bracket .kept .1 .1 .1 .1 .1 .0
 
 simple-same-length-18 : (t : ℕ) → simple-lts.Need-same-length-18 (
   simple-at-reads.Asked,
@@ -6759,7 +6759,7 @@ simple-same-length-18 : (t : ℕ) → simple-lts.Need-same-length-18 (
   kind-at-reads.Asked,
   kind-at-reads.Learnt,
 ) (simple-at t) simple.Post
-simple-same-length-18 t c = search needs
+simple-same-length-18 t c = c .before .before .before .before .before .before .before .before .before .before .bracket .kept .1 .1 .1 .1 .1 .1 .0
 
 simple-returns-6 : (t : ℕ) → simple-lts.Need-returns-6 (
   simple-at-reads.Asked,
@@ -6787,7 +6787,7 @@ simple-same-length-19 : (t : ℕ) → simple-lts.Need-same-length-19 (
   kind-at-reads.Asked,
   kind-at-reads.Learnt,
 ) (simple-at t) simple.Post
-simple-same-length-19 t c = search needs
+simple-same-length-19 t c = c .before .before .before .before .before .before .before .before .before .before .bracket .kept .1 .1 .1 .0
 
 simple-same-length-20 : (t : ℕ) → simple-lts.Need-same-length-20 (
   simple-at-reads.Asked,
@@ -6801,7 +6801,7 @@ simple-same-length-20 : (t : ℕ) → simple-lts.Need-same-length-20 (
   kind-at-reads.Asked,
   kind-at-reads.Learnt,
 ) (simple-at t) simple.Post
-simple-same-length-20 t c = search needs
+simple-same-length-20 t c = c .before .before .before .before .before .before .before .before .before .before .bracket .kept .1 .1 .1 .1 .0
 
 simple-same-length-21 : (t : ℕ) → simple-lts.Need-same-length-21 (
   simple-at-reads.Asked,
@@ -6815,7 +6815,7 @@ simple-same-length-21 : (t : ℕ) → simple-lts.Need-same-length-21 (
   kind-at-reads.Asked,
   kind-at-reads.Learnt,
 ) (simple-at t) simple.Post
-simple-same-length-21 t c = search needs
+simple-same-length-21 t c = c .before .before .before .before .before .before .before .before .before .before .bracket .kept .1 .1 .1 .1 .1 .0
 
 simple-same-length-22 : (t : ℕ) → simple-lts.Need-same-length-22 (
   simple-at-reads.Asked,
@@ -6829,7 +6829,7 @@ simple-same-length-22 : (t : ℕ) → simple-lts.Need-same-length-22 (
   kind-at-reads.Asked,
   kind-at-reads.Learnt,
 ) (simple-at t) simple.Post
-simple-same-length-22 t c = search needs
+simple-same-length-22 t c = c .before .before .before .before .before .before .before .before .before .before .bracket .kept .1 .1 .1 .1 .1 .1 .0
 
 simple-returns-7 : (t : ℕ) → simple-lts.Need-returns-7 (
   simple-at-reads.Asked,
@@ -6857,7 +6857,7 @@ simple-same-length-23 : (t : ℕ) → simple-lts.Need-same-length-23 (
   kind-at-reads.Asked,
   kind-at-reads.Learnt,
 ) (simple-at t) simple.Post
-simple-same-length-23 t c = search needs
+simple-same-length-23 t c = c .before .before .before .before .before .before .before .before .before .before .bracket .kept .1 .1 .1 .0
 
 simple-same-length-24 : (t : ℕ) → simple-lts.Need-same-length-24 (
   simple-at-reads.Asked,
@@ -6871,7 +6871,7 @@ simple-same-length-24 : (t : ℕ) → simple-lts.Need-same-length-24 (
   kind-at-reads.Asked,
   kind-at-reads.Learnt,
 ) (simple-at t) simple.Post
-simple-same-length-24 t c = search needs
+simple-same-length-24 t c = c .before .before .before .before .before .before .before .before .before .before .bracket .kept .1 .1 .1 .1 .0
 
 simple-same-length-25 : (t : ℕ) → simple-lts.Need-same-length-25 (
   simple-at-reads.Asked,
@@ -6885,7 +6885,7 @@ simple-same-length-25 : (t : ℕ) → simple-lts.Need-same-length-25 (
   kind-at-reads.Asked,
   kind-at-reads.Learnt,
 ) (simple-at t) simple.Post
-simple-same-length-25 t c = search needs
+simple-same-length-25 t c = c .before .before .before .before .before .before .before .before .before .before .bracket .kept .1 .1 .1 .1 .1 .0
 
 simple-same-length-26 : (t : ℕ) → simple-lts.Need-same-length-26 (
   simple-at-reads.Asked,
@@ -6899,7 +6899,7 @@ simple-same-length-26 : (t : ℕ) → simple-lts.Need-same-length-26 (
   kind-at-reads.Asked,
   kind-at-reads.Learnt,
 ) (simple-at t) simple.Post
-simple-same-length-26 t c = search needs
+simple-same-length-26 t c = c .before .before .before .before .before .before .before .before .before .before .bracket .kept .1 .1 .1 .1 .1 .1 .0
 
 simple-returns-8 : (t : ℕ) → simple-lts.Need-returns-8 (
   simple-at-reads.Asked,
