@@ -15,7 +15,7 @@ pub struct Step {
 }
 
 // A number and the position behind the byte that follows it, or no number there.
-enum Number {
+pub enum Number {
     At(u64, Cursor),
     Nothing,
 }
