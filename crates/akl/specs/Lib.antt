@@ -17,4 +17,11 @@ pub mod Answers
 pub mod Record
 pub mod WellFormed
 pub mod Computed
+pub mod RowKinds
+pub mod ConstraintRows
+pub mod TextRows
+pub mod RunRows
+pub mod LimitRows
+pub mod FormedRows
+pub mod LeadRows
 pub mod Rows
