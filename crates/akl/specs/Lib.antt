@@ -21,6 +21,7 @@ pub mod RowKinds
 pub mod ConstraintRows
 pub mod TextRows
 pub mod RunRows
+pub mod StableRows
 pub mod LimitRows
 pub mod FormedRows
 pub mod LeadRows

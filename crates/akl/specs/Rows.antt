@@ -10,13 +10,14 @@ use Rattle.akl.specs.RowKinds.{Row, shows, outcome, due}
 use Rattle.akl.specs.ConstraintRows.{constraint-rows}
 use Rattle.akl.specs.TextRows.{times, text-rows}
 use Rattle.akl.specs.RunRows.{run-rows}
+use Rattle.akl.specs.StableRows.{stable-rows}
 use Rattle.akl.specs.LimitRows.{limit-rows}
 use Rattle.akl.specs.FormedRows.{formed-rows}
 use Rattle.akl.specs.LeadRows.{lead-rows}
 use Rattle.akl.specs.Computed.{everything}
 
 rows : List Row
-rows = constraint-rows ++ text-rows ++ run-rows ++ limit-rows ++ formed-rows
+rows = constraint-rows ++ text-rows ++ run-rows ++ stable-rows ++ limit-rows ++ formed-rows
 
 -- the numbers, from 1, of the rows that fail
 failing : ℕ → List Row → List ℕ
@@ -24,5 +25,5 @@ failing n [] = []
 failing n (r ∷ rs) = if (shows r) (failing (suc n) rs) (n ∷ failing (suc n) rs)
 
 every-row : (failing 1 rows ≡ []) × (map outcome lead-rows ≡ map due lead-rows)
-unfolding everything rows failing constraint-rows text-rows run-rows limit-rows formed-rows lead-rows times
+unfolding everything rows failing constraint-rows text-rows run-rows stable-rows limit-rows formed-rows lead-rows times
 every-row = (refl, refl)
