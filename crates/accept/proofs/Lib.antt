@@ -1,7 +1,7 @@
 pub mod Effects
 pub mod EffectSound
 pub mod PlaceLaws
-pub mod InsideLaws
+pub mod Inner
 pub mod Stable
 pub mod Accepted
 pub mod StepTheorem

@@ -21,10 +21,11 @@ use Rattle.akl.specs.Stability.{fits-row, is-some, is-determinate, rewritten, r
 use Rattle.akl.specs.Step.{splitting}
 use Rattle.theory.specs.Transition.{Transition}
 use Rattle.theory.specs.Transition as Tr
-use Rattle.accept.specs.Accepts.{Inside, Undisturbed, Each, Stable}
+use Rattle.accept.specs.Accepts.{Inside, Undisturbed, Stable}
 use Rattle.accept.proofs.Effects.{row-range, effect-complete, leads}
 use Rattle.accept.proofs.EffectSound.{Found, effect-sound}
 use Rattle.accept.proofs.PlaceLaws.{no-place}
+use Rattle.accept.proofs.Inner.{Each, quiet-inside-iff}
 
 -- ---------------------------------------------------------------------------------------------
 -- The row of a transition's rule.
@@ -157,4 +158,5 @@ stable-iff P c (at χ n) =
     let a = and-T (quiescent P c χ n) (all (quiet? (locals n) (env χ)) (stores-down n [])) in
     let q = quiescent-iff P c χ n in
     let s = quiet-each (locals n) (env χ) (stores-down n []) in
-    (λ h. (q .0 (a .0 h .0), s .0 (a .0 h .1)), λ h. a .1 (q .1 (h .0), s .1 (h .1)))
+    let d = quiet-inside-iff (env χ) n in
+    (λ h. (q .0 (a .0 h .0), d .0 (s .0 (a .0 h .1))), λ h. a .1 (q .1 (h .0), s .1 (d .1 (h .1))))
