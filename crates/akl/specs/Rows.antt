@@ -12,7 +12,7 @@ use Rattle.akl.specs.TextRows.{times, text-rows}
 use Rattle.akl.specs.RunRows.{run-rows}
 use Rattle.akl.specs.StableRows.{stable-rows}
 use Rattle.akl.specs.LimitRows.{limit-rows}
-use Rattle.akl.specs.FormedRows.{formed-rows}
+use Rattle.akl.specs.FormedRows.{deep, copies, definitions-to, formed-rows}
 use Rattle.akl.specs.LeadRows.{lead-rows}
 use Rattle.akl.specs.Computed.{everything}
 
@@ -25,5 +25,5 @@ failing n [] = []
 failing n (r ∷ rs) = if (shows r) (failing (suc n) rs) (n ∷ failing (suc n) rs)
 
 every-row : (failing 1 rows ≡ []) × (map outcome lead-rows ≡ map due lead-rows)
-unfolding everything rows failing constraint-rows text-rows run-rows stable-rows limit-rows formed-rows lead-rows times
+unfolding everything rows failing constraint-rows text-rows run-rows stable-rows limit-rows formed-rows lead-rows times deep copies definitions-to
 every-row = (refl, refl)
