@@ -1,10 +1,15 @@
 -- Rows of the table: limits on fresh numbers and parts.
 use mathlib.Core.List.{List, [], _∷_}
-use Rattle.constraint.specs.Constraint.{ctrue}
+use Rattle.constraint.specs.Constraint.{ctrue, cfail, capp}
 use Rattle.akl.specs.Base.{bytes}
-use Rattle.akl.specs.Syntax.{wait, atom, hide, choice, no-more, clause}
-use Rattle.akl.specs.Configuration.{and, stmt, choice-box, guard, nil, cons, one}
-use Rattle.akl.specs.RowKinds.{Row, starts, steps-from, has-parts, x, y, _is_, top-box, config, take}
+use Rattle.akl.specs.Limits.{most-parts}
+use Rattle.akl.specs.Syntax.{number, wait, Stmt, atom, call, comp, hide, choice, no-more, clause}
+use Rattle.akl.specs.Configuration.{goal, Node, or, and, stmt, choice-box, guard, nil, cons, one}
+use Rattle.akl.specs.RowKinds.{Row, starts, steps-from, texts-refused, has-parts, x, y, _is_, top-box, config, take}
+
+-- the statement as the only member
+abbrev holding : Stmt → Node goal
+holding s = top-box [] [] (one (stmt s))
 
 unfoldable pub limit-rows : List Row
 limit-rows =
@@ -28,4 +33,32 @@ limit-rows =
     ∷ steps-from 3 (config (top-box [] [] (one (choice-box wait (one (guard (and (y ∷ []) [] nil) (atom ctrue)))))) 2) (take 6 2 0) 15
     -- 14 before 15
     ∷ steps-from 1 (config (top-box [] [] (one (stmt (hide 1 (atom ctrue))))) 65535) (take 4 2 0) 14
+    -- 2,048 parts fit, 2,049 do not: after rule 4 there are an or-box, an and-box, the locals and an atom
+    ∷ steps-from most-parts (config (top-box [] [] (one (stmt (hide 2045 (atom ctrue))))) 0) (take 4 2 0) 0
+    ∷ steps-from most-parts (config (top-box [] [] (one (stmt (hide 2046 (atom ctrue))))) 0) (take 4 2 0) 15
+    -- 1 and 18 of the steps text before 15 of the start; 5 of the query before 18
+    ∷ texts-refused 3 "" "true." "1 2 0\n" 0
+    ∷ texts-refused 2 "" "true." "1 2 0\n" 15
+    ∷ texts-refused 2 "" "true." "1 2 0" 18
+    ∷ texts-refused 2 "" "p." "1 2 0" 5
+    -- parts, kind by kind: the top or-box, an empty or-box inside it
+    ∷ has-parts (or nil) 1
+    ∷ has-parts (or (cons (or nil) (one (or nil)))) 3
+    -- an and-box, its locals, what is stored, its members
+    ∷ has-parts (top-box [] [] nil) 2
+    ∷ has-parts (top-box (x ∷ y ∷ []) [] nil) 4
+    ∷ has-parts (top-box [] (cfail ∷ (x is "a") ∷ []) nil) 4
+    ∷ has-parts (holding (atom ctrue)) 3
+    ∷ has-parts (holding (atom cfail)) 3
+    ∷ has-parts (holding (atom (capp (number x) (bytes "f") (number x ∷ number y ∷ [])))) 3
+    ∷ has-parts (holding (call (bytes "p") [])) 3
+    ∷ has-parts (holding (call (bytes "p") (number x ∷ number y ∷ []))) 3
+    ∷ has-parts (holding (comp (atom ctrue) (comp (atom ctrue) (atom ctrue)))) 7
+    ∷ has-parts (holding (hide 2 (atom ctrue))) 6
+    ∷ has-parts (holding (choice wait (clause 0 (atom ctrue) (atom ctrue) no-more))) 6
+    ∷ has-parts (holding (choice wait (clause 2 (atom ctrue) (atom ctrue) (clause 1 (atom ctrue) (hide 1 (atom cfail)) no-more)))) 14
+    -- a choice-box, a guarded goal besides its guard and body
+    ∷ has-parts (top-box [] [] (one (choice-box wait nil))) 3
+    ∷ has-parts (top-box [] [] (one (choice-box wait (one (guard (or nil) (atom ctrue)))))) 6
+    ∷ has-parts (top-box [] [] (one (choice-box wait (one (guard (and (y ∷ []) [] nil) (hide 3 (atom ctrue))))))) 11
     ∷ []

@@ -32,6 +32,8 @@ pub data Row : Type 0 where
   starts : ℕ → List ℕ → ℕ → Row
   -- the refusal of a step on a configuration, with a limit on parts
   steps-from : ℕ → Config → Step → ℕ → Row
+  -- the refusal of rules, query and steps before any step is tried, with a limit on parts
+  texts-refused : ℕ → String → String → String → ℕ → Row
   -- rules, query and steps: the record that is printed
   prints : String → String → String → String → Row
   -- rules, query and steps, then the answer of a number in a slice of a length: the refusal
@@ -67,6 +69,7 @@ shows (query-text p t n) = eqb (query-refusal p t) n
 shows (steps-text t n) = eqb (refusal (read-steps t)) n
 shows (starts limit t n) = eqb (start-refusal limit t) n
 shows (steps-from limit c s n) = eqb (refusal (step limit [] c s)) n
+shows (texts-refused limit p q s n) = eqb (refusal (checked-run limit (bytes p) (bytes q) (bytes s))) n
 shows (prints p q s r) = same (runcheck (bytes p) (bytes q) (bytes s)) (bytes r)
 shows (answers p q s n m r) = eqb (answer-refusal (checked-run most-parts (bytes p) (bytes q) (bytes s)) n m) r
 shows (formed-with limit P xs c b) = agree b (well-formed limit P xs c)

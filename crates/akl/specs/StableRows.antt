@@ -65,7 +65,8 @@ stable-rows =
     -- .. a choice-box around may be named
     ∷ prints "" "((true ? true ; true ? true) ? true)." "5 2 0\n5 5 0\n1 8 0\n1 10 0\n12 5 2\n" "accepted 5\nrefusal 0\nstate open\n"
     -- .. the box 2 is right behind the goal 1, and not inside it
-    ∷ prints "" "(true ? true ; true ? (true ? true ; Y = a ? true))." "5 2 0\n1 5 0\n1 7 0\n12 2 1\n14 1 0\n6 2 0\n1 2 0\n6 3 0\n5 3 0\n1 6 0\n12 3 1\n" "accepted 10\nrefusal 13\nanswer Y = _0\nstate open\n"
+    ∷ prints "" "(true ? true ; true ? (true ? true ; Y = a ? true))." "5 2 0\n1 5 0\n1 7 0\n12 2 1\n14 1 0\n6 2 0\n1 2 0\n6 3 0\n5 3 0\n1 6 0\n12 3 1\n"
+      "accepted 10\nrefusal 13\nanswer Y = _0\nstate open\n"
     -- 12 under `->` and `|`, where neither 7 nor 8 is possible
     ∷ prints "" "(X = a -> true ; true -> true)." "5 2 0\n1 5 0\n1 7 0\n12 2 1\n" "accepted 3\nrefusal 13\nstate open\n"
     ∷ prints "" "(X = a | true ; X = b | true)." "5 2 0\n1 5 0\n1 7 0\n12 2 1\n" "accepted 3\nrefusal 13\nstate open\n"

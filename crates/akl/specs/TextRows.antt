@@ -68,6 +68,15 @@ text-rows =
     ∷ program-text (bytes "p := (true ? (true -> true) ; true ? true).") 0
     -- the lowest number, wherever it stands
     ∷ program-text (bytes "p := (true ? true ; true | true), X = a. q(X,X) := true.") 4
+    -- .. 3 before 4, 5, 6 and 7; 4 before 5; 5 before 6; 5 and 6 before 7 (4 before 6 and 7 above)
+    ∷ program-text (bytes "p(A,B,C,D,E,F,G,H,I) := q.") 3
+    ∷ program-text (bytes "p(A,A,B,C,D,E,F,G,H) := true.") 3
+    ∷ program-text (bytes "p := X = a. q(A,B,C,D,E,F,G,H,I) := true.") 3
+    ∷ program-text (bytes "p := (true ? true ; true -> true). q(A,B,C,D,E,F,G,H,I) := true.") 3
+    ∷ program-text (bytes "p(X,X) := q.") 4
+    ∷ program-text (bytes "p := X = a, q.") 5
+    ∷ program-text (bytes "p := (true ? true ; true -> true), q.") 5
+    ∷ program-text (bytes "p := (true ? true ; true -> true), X = a.") 6
     -- 18: steps lines
     ∷ steps-text [] 0
     ∷ steps-text (bytes "0001 2 4294967295\n") 0
