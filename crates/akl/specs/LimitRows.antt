@@ -33,9 +33,9 @@ limit-rows =
     ∷ steps-from 3 (config (top-box [] [] (one (choice-box wait (one (guard (and (y ∷ []) [] nil) (atom ctrue)))))) 2) (take 6 2 0) 15
     -- 14 before 15
     ∷ steps-from 1 (config (top-box [] [] (one (stmt (hide 1 (atom ctrue))))) 65535) (take 4 2 0) 14
-    -- 2,048 parts fit, 2,049 do not: after rule 4 there are an or-box, an and-box, the locals and an atom
-    ∷ steps-from most-parts (config (top-box [] [] (one (stmt (hide 2045 (atom ctrue))))) 0) (take 4 2 0) 0
-    ∷ steps-from most-parts (config (top-box [] [] (one (stmt (hide 2046 (atom ctrue))))) 0) (take 4 2 0) 15
+    -- 2,048 parts fit, 2,049 do not: after rule 1 there are an or-box, an and-box, a hiding with its variables, and an atom
+    ∷ steps-from most-parts (config (top-box [] [] (cons (stmt (atom ctrue)) (one (stmt (hide 2044 (atom ctrue)))))) 0) (take 1 2 0) 0
+    ∷ steps-from most-parts (config (top-box [] [] (cons (stmt (atom ctrue)) (one (stmt (hide 2045 (atom ctrue)))))) 0) (take 1 2 0) 15
     -- 1 and 18 of the steps text before 15 of the start; 5 of the query before 18
     ∷ texts-refused 3 "" "true." "1 2 0\n" 0
     ∷ texts-refused 2 "" "true." "1 2 0\n" 15
