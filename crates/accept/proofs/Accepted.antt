@@ -1,28 +1,26 @@
 -- The step accepts exactly what the relation and the limits allow, and gives exactly its result.
 use mathlib.Core.Path.{_≡_, refl, ap, sym, _∙_, subst}
-use mathlib.Core.Logic.{_↔_, _⊎_, inl, inr}
-use mathlib.Core.List.{List, [], _∷_}
-use mathlib.Core.Bool.{Bool, true, false, _&&_, not}
-use mathlib.Core.Option.{Option, some, none, Option·some-injective}
-use Prim.Native.Nat.{ℕ, zero, suc, _≤_}
+use mathlib.Core.Logic.{_↔_}
+use mathlib.Core.Bool.{Bool, true, false, not}
+use mathlib.Core.Option.{Option, some, none}
+use Prim.Native.Nat.{ℕ, suc, _≤_}
 use native.Mathlib.Omega.{arith}
-use native.Mathlib.Decide.{ℕ-discrete}
-use lib.Dec.{T, leb, ltb, eqb, ltb→lt, lt→ltb, nltb→le, eqb→eq, eqb-refl}
+use lib.Dec.{T, ltb, eqb, ltb→lt, nltb→le, eqb→eq, eqb-refl}
 use Rattle.constraint.proofs.Lists.{and-T}
-use Rattle.akl.specs.Base.{if, Result, refused, ok}
+use Rattle.akl.specs.Base.{is-some, if, Result, refused, ok}
 use Rattle.akl.specs.Limits.{last-number}
 use Rattle.akl.specs.Syntax.{Program}
 use Rattle.akl.specs.StepsText.{Step}
-use Rattle.akl.specs.Configuration.{Kind, Node, Ctx, plug, Config}
-use Rattle.akl.specs.Places.{Place, at, place, inside, holder-number}
+use Rattle.akl.specs.Configuration.{Config}
+use Rattle.akl.specs.Places.{Place, at, place}
 use Rattle.akl.specs.Parts.{parts}
 use Rattle.akl.specs.Table.{Row, rule-row}
 use Rattle.akl.specs.Rules.{Change, effect}
-use Rattle.akl.specs.Stability.{is-some, fits-row, stable}
+use Rattle.akl.specs.Stability.{fits-row, stable}
 use Rattle.akl.specs.Step.{splitting, argument-fits, holds-box, box-of, stable-around, argument-stable, within-limits, after-condition, after-place, after-rule, step}
 use Rattle.accept.specs.Accepts.{StableAround, Accepts, Holds-box}
 use Rattle.accept.proofs.Effects.{effect-complete}
-use Rattle.accept.proofs.EffectSound.{Found, effect-sound}
+use Rattle.accept.proofs.EffectSound.{effect-sound}
 use Rattle.accept.proofs.Stable.{transition-row, inside-T, stable-iff}
 
 refused-ok : {A : Type 0} (n : ℕ) (a : A) → _≡_ {A = Result A} (refused n) (ok a) → ⊥

@@ -1,23 +1,23 @@
 -- What the function computes, the relation allows.
-use mathlib.Core.Path.{_≡_, refl, ap, sym, _∙_, subst}
-use mathlib.Core.Logic.{_↔_, _⊎_, inl, inr}
-use mathlib.Core.List.{List, [], _∷_, _++_}
+use mathlib.Core.Path.{_≡_, refl, sym, subst}
+use mathlib.Core.Logic.{inl, inr}
+use mathlib.Core.List.{List, _++_}
 use mathlib.Core.Bool.{Bool, true, false, _&&_, _||_, not}
 use mathlib.Core.Option.{Option, some, none, Option·some-injective}
-use Prim.Native.Nat.{ℕ, zero, suc, _+_, _<_}
+use Prim.Native.Nat.{ℕ}
 use native.Mathlib.Omega.{arith}
-use lib.Dec.{T, eqb}
-use Rattle.constraint.specs.Constraint.{Con, Store, Satisfiable, Quiet, In}
+use lib.Dec.{T}
+use Rattle.constraint.specs.Constraint.{Store, In}
 use Rattle.constraint.specs.Solve.{satisfiable?, quiet?}
 use Rattle.constraint.proofs.Lists.{none-some, and-T, or-T, not-T}
 use Rattle.constraint.proofs.Decision.{satisfiable-iff}
 use Rattle.constraint.proofs.Renamed.{quiet-iff}
 use Rattle.akl.specs.Base.{Name, size}
-use Rattle.akl.specs.Syntax.{Var, Op, wait, cond, commit, Stmt, atom, call, comp, hide, choice, Clauses, Program, defined, opened}
-use Rattle.akl.specs.Configuration.{Kind, goal, member, guarded, Node, or, and, stmt, choice-box, guard, Nodes, nil, cons, _+n_, one, failure, Ctx, top, in-or, in-and, in-choice, in-guard, plug, env, Config}
+use Rattle.akl.specs.Syntax.{Var, Op, wait, cond, commit, Stmt, atom, call, comp, hide, choice, Program, defined}
+use Rattle.akl.specs.Configuration.{Kind, goal, member, guarded, Node, or, and, stmt, choice-box, guard, Nodes, nil, cons, Ctx, top, in-or, in-and, in-choice, in-guard, plug, env, Config}
 use Rattle.akl.specs.Places.{Place, at}
 use Rattle.akl.specs.Table.{Row, rule-row, kind-at, statement-kind, or-kind}
-use Rattle.akl.specs.Rules.{Change, provided, solved, solved-guard, quiet-guard, non-empty, is-wait, is-cond, is-commit, effect}
+use Rattle.akl.specs.Rules.{Change, provided, non-empty, is-wait, effect}
 use Rattle.akl.specs.Stability.{fits-row}
 use Rattle.theory.specs.Transition.{Some, Transition}
 use Rattle.theory.specs.Transition as Tr

@@ -1,25 +1,23 @@
 -- The relation of the rules and the function that computes them agree.
-use mathlib.Core.Path.{_≡_, refl, ap, sym, _∙_, subst}
-use mathlib.Core.Logic.{_↔_, _⊎_, inl, inr}
+use mathlib.Core.Path.{_≡_, refl, sym, subst}
+use mathlib.Core.Logic.{_↔_, inl, inr}
 use mathlib.Core.List.{List, [], _∷_, _++_}
-use mathlib.Core.Bool.{Bool, true, false, _&&_, _||_, not}
+use mathlib.Core.Bool.{Bool, true, _&&_, _||_, not}
 use mathlib.Core.Option.{Option, some, none}
-use Prim.Native.Nat.{ℕ, zero, suc, _+_, _<_}
+use Prim.Native.Nat.{ℕ, zero, suc, _<_}
 use native.Mathlib.Omega.{arith}
-use native.Mathlib.Nat.{not-suc-le-zero}
-use lib.Dec.{T, eqb}
-use Rattle.constraint.specs.Constraint.{Con, Store, Satisfiable, Quiet, In}
+use lib.Dec.{T}
+use Rattle.constraint.specs.Constraint.{In}
 use Rattle.constraint.specs.Solve.{satisfiable?, quiet?, elem}
 use Rattle.constraint.proofs.Lists.{none-some, and-T, or-T, not-T, elem-In}
 use Rattle.constraint.proofs.Decision.{satisfiable-iff}
 use Rattle.constraint.proofs.Renamed.{quiet-iff}
-use Rattle.akl.specs.Base.{Name, size, nth, all, range, if}
-use Rattle.akl.specs.Syntax.{Var, Op, wait, cond, commit, Stmt, atom, call, comp, hide, choice, Clauses, Program, defined}
-use Rattle.akl.specs.Configuration.{Kind, goal, member, guarded, Node, or, and, stmt, choice-box, guard, Nodes, nil, cons, _+n_, one, failure, Ctx, top, in-or, in-and, in-choice, in-guard, plug, env, Config}
-use Rattle.akl.specs.Places.{Place, at, place-number, holder-number}
-use Rattle.akl.specs.Table.{Takes, constraint-atom, program-atom, composition, hiding, choice-statement, choice-box-place, guarded-goal, and-box, inner-or-box, other-or-box, Mode, determinate, nondeterminate, Rewrites, itself, holder, Row, table, rule-row, statement-kind, or-kind, kind-at, takes-number, same-kind}
-use Rattle.akl.specs.Rules.{Change, provided, solved-guard, quiet-guard, non-empty, is-wait, is-cond, is-commit, effect}
-use Rattle.akl.specs.Stability.{fits-row, rewritten}
+use Rattle.akl.specs.Base.{size, nth, all, range}
+use Rattle.akl.specs.Syntax.{Op, wait, cond, commit, Program}
+use Rattle.akl.specs.Configuration.{Kind, Node, Nodes, nil, cons, Ctx, in-and, plug, env}
+use Rattle.akl.specs.Places.{Place}
+use Rattle.akl.specs.Table.{Takes, constraint-atom, program-atom, composition, hiding, choice-statement, choice-box-place, guarded-goal, and-box, inner-or-box, other-or-box, Row, table, rule-row, same-kind}
+use Rattle.akl.specs.Rules.{Change, provided, non-empty, is-wait, effect}
 use Rattle.theory.specs.Transition.{Some, Transition}
 use Rattle.theory.specs.Transition as Tr
 use Rattle.theory.proofs.Reflect.{all-each}

@@ -1,11 +1,11 @@
 -- The lists of the stability test hold exactly what stands inside the goal: its locals, and the stores down to each and-box.
-use mathlib.Core.Path.{_≡_, refl, ap, sym, _∙_, subst}
-use mathlib.Core.Logic.{_↔_, _⊎_, inl, inr}
+use mathlib.Core.Path.{sym, subst}
+use mathlib.Core.Logic.{_↔_, inl, inr}
 use mathlib.Core.List.{List, [], _∷_, _++_, append-assoc}
 use Prim.Native.Nat.{ℕ}
-use Rattle.constraint.specs.Constraint.{Store, Asg, Sats, In, Off, Quiet}
+use Rattle.constraint.specs.Constraint.{Store, Asg, In, Off, Quiet}
 use Rattle.constraint.proofs.Lists.{In-append}
-use Rattle.akl.specs.Configuration.{Kind, goal, member, guarded, Node, or, and, stmt, choice-box, guard, Nodes, nil, cons}
+use Rattle.akl.specs.Configuration.{Kind, Node, or, and, stmt, choice-box, guard, Nodes, nil, cons}
 use Rattle.akl.specs.Stability.{locals, locals-all, stores-down, stores-down-all}
 use Rattle.accept.specs.Inner.{OneOf, first, later, BoxIn, it, in-member, in-or-box, in-choice-box, in-its-guard, LocalIn, OffLocals, QuietInside}
 

@@ -1,29 +1,28 @@
 -- The stability test decides stability, said of transitions and trees.
 use mathlib.Core.Path.{_≡_, refl, ap, sym, _∙_, subst}
-use mathlib.Core.Logic.{_↔_, _⊎_, inl, inr}
-use mathlib.Core.List.{List, [], _∷_, _++_}
-use mathlib.Core.Bool.{Bool, true, false, _&&_, _||_, not}
+use mathlib.Core.Logic.{_↔_, inl, inr}
+use mathlib.Core.List.{List, [], _∷_}
+use mathlib.Core.Bool.{Bool, _&&_, not}
 use mathlib.Core.Option.{Option, some, none, Option·some-injective}
-use Prim.Native.Nat.{ℕ, zero, suc, _+_, _≤_, _<_}
-use native.Mathlib.Omega.{arith}
-use lib.Dec.{T, leb, ltb, eqb, leb→le, le→leb, ltb→lt, lt→ltb}
+use Prim.Native.Nat.{ℕ, zero, suc, _+_}
+use lib.Dec.{T, leb, ltb, leb→le, le→leb, ltb→lt, lt→ltb}
 use Rattle.constraint.specs.Constraint.{Store, Quiet, In}
 use Rattle.constraint.specs.Solve.{quiet?}
 use Rattle.constraint.proofs.Lists.{and-T, or-T, not-T}
 use Rattle.constraint.proofs.Renamed.{quiet-iff}
-use Rattle.akl.specs.Base.{nth, size, any, all, range}
+use Rattle.akl.specs.Base.{is-some, nth, size, any, all, range}
 use Rattle.akl.specs.Syntax.{Program}
-use Rattle.akl.specs.Configuration.{Kind, Node, Ctx, top, in-or, in-and, in-choice, in-guard, env, Config}
+use Rattle.akl.specs.Configuration.{Kind, Node, Ctx, top, env, Config}
 use Rattle.akl.specs.Places.{Place, at, places, place, count, place-number, holder-number, inside}
-use Rattle.akl.specs.Table.{Mode, determinate, nondeterminate, Rewrites, itself, holder, Row, table, rule-row, statement-kind, or-kind, kind-at, same-kind}
+use Rattle.akl.specs.Table.{Row, table, rule-row, statement-kind, or-kind, kind-at}
 use Rattle.akl.specs.Rules.{Change, effect}
-use Rattle.akl.specs.Stability.{fits-row, is-some, is-determinate, rewritten, row-disturbs, disturbs, quiescent, locals, stores-down, stable}
+use Rattle.akl.specs.Stability.{fits-row, is-determinate, rewritten, row-disturbs, disturbs, quiescent, locals, stores-down, stable}
 use Rattle.akl.specs.Step.{splitting}
 use Rattle.theory.specs.Transition.{Transition}
 use Rattle.theory.specs.Transition as Tr
 use Rattle.accept.specs.Accepts.{Inside, Undisturbed, Stable}
-use Rattle.accept.proofs.Effects.{row-range, effect-complete, leads}
-use Rattle.accept.proofs.EffectSound.{Found, effect-sound}
+use Rattle.accept.proofs.Effects.{row-range, effect-complete}
+use Rattle.accept.proofs.EffectSound.{effect-sound}
 use Rattle.accept.proofs.PlaceLaws.{no-place}
 use Rattle.accept.proofs.Inner.{Each, quiet-inside-iff}
 

@@ -1,13 +1,13 @@
 -- When a step is accepted, said by the rules' relation: the place has the number, a transition of that rule stands there,
 -- the argument is as it must be, and the limits hold. Stable and inside are said of transitions and trees.
 use mathlib.Core.Path.{_≡_}
-use mathlib.Core.Option.{Option, some}
+use mathlib.Core.Option.{some}
 use Prim.Native.Nat.{ℕ, suc, _+_, _≤_, _<_}
 use Rattle.akl.specs.Limits.{last-number}
 use Rattle.akl.specs.Syntax.{Program}
 use Rattle.akl.specs.StepsText.{Step}
 use Rattle.akl.specs.Configuration.{Kind, Node, Ctx, plug, env, Config}
-use Rattle.akl.specs.Places.{Place, at, place, count, place-number, holder-number}
+use Rattle.akl.specs.Places.{Place, at, place, count, place-number}
 use Rattle.akl.specs.Parts.{parts}
 use Rattle.akl.specs.Step.{splitting, box-of}
 use Rattle.theory.specs.Transition.{Transition}

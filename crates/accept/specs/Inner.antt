@@ -5,7 +5,7 @@ use mathlib.Core.List.{List, _++_}
 use Prim.Native.Nat.{ℕ}
 use Rattle.constraint.specs.Constraint.{Store, Asg, Sats, In}
 use Rattle.akl.specs.Syntax.{Op, Stmt}
-use Rattle.akl.specs.Configuration.{Kind, goal, member, guarded, Node, or, and, stmt, choice-box, guard, Nodes, nil, cons}
+use Rattle.akl.specs.Configuration.{Kind, goal, member, guarded, Node, or, and, choice-box, guard, Nodes, cons}
 
 -- m is one of the nodes side by side.
 pub data OneOf {k : Kind} (m : Node k) : Nodes k → Type 0 where

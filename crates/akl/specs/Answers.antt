@@ -1,13 +1,13 @@
 -- Answers, their texts, and the state.
-use mathlib.Core.List.{List, [], _∷_, _++_, map}
+use mathlib.Core.List.{List, [], _∷_, _++_}
 use mathlib.Core.Bool.{Bool, true, false, _&&_}
 use mathlib.Core.Option.{Option, some, none}
-use Prim.Native.Nat.{ℕ, zero, suc, _+_, _-_}
+use Prim.Native.Nat.{ℕ, zero, suc}
 use lib.Dec.{eqb, ltb}
 use Rattle.constraint.specs.Tree.{Label}
 use Rattle.constraint.specs.Constraint.{Store}
 use Rattle.constraint.specs.Solve.{Bnd, free, fun, find, St, start, solve, satisfiable?, elem}
-use Rattle.akl.specs.Base.{Name, bytes, size, nth, flat, range, decimal, if, Result, refused, ok}
+use Rattle.akl.specs.Base.{Name, bytes, size, nth, range, decimal, if, Result, refused, ok}
 use Rattle.akl.specs.Configuration.{Kind, goal, member, Node, or, and, stmt, choice-box, guard, Nodes, nil, cons}
 
 -- "An answer is a solved and-box, satisfiable, in the top or-box or in or-boxes nested in it, left to right."
@@ -107,12 +107,15 @@ answer-text xs a = solved-text xs (solve start (a .1))
 
 -- The outcome of asking for the answer of a number, for a slice of the length m: 16 "no answer of that number, counted
 -- from 1", 17 "answer text longer than the lent slice".
-abbrev pub numbered : List Name → Node goal → ℕ → Option Answer
-numbered xs g zero = none
-numbered xs g (suc n) = nth (answers g) n
+abbrev pub numbered : Node goal → ℕ → Option Answer
+numbered g zero = none
+numbered g (suc n) = nth (answers g) n
+
+abbrev pub fitted : ℕ → List ℕ → Result (List ℕ)
+fitted m t = if (ltb m (size t)) (refused 17) (ok t)
 
 unfoldable pub answer : List Name → Node goal → ℕ → ℕ → Result (List ℕ)
-answer xs g n m = elim (numbered xs g n) [ none ↦ refused 16 | some a ↦ let t = answer-text xs a in if (ltb m (size t)) (refused 17) (ok t) ]
+answer xs g n m = elim (numbered g n) [ none ↦ refused 16 | some a ↦ fitted m (answer-text xs a) ]
 
 -- ---------------------------------------------------------------------------------------------
 -- "The state is `failed` when the top or-box is empty, `final` when every member is an answer, else `open`."

@@ -1,8 +1,8 @@
 -- Small functions on lists and options that the definitions share.
-use mathlib.Core.List.{List, [], _∷_, _++_, map}
-use mathlib.Core.Bool.{Bool, true, false, _&&_, _||_, not}
+use mathlib.Core.List.{List, [], _∷_, _++_}
+use mathlib.Core.Bool.{Bool, true, false, _&&_, _||_}
 use mathlib.Core.Option.{Option, some, none}
-use Prim.Native.Nat.{ℕ, zero, suc, _+_, _*_, _-_, _/_, _%_, max}
+use Prim.Native.Nat.{ℕ, zero, suc, _+_, _/_, _%_}
 use Prim.Native.Char.{code}
 use Prim.Native.String.{String, len, charAt}
 use lib.Dec.{eqb, leb}
@@ -28,6 +28,10 @@ some a >>= f = f a
 abbrev pub when : {A : Type 0} → Bool → A → Option A
 when true a = some a
 when false a = none
+
+abbrev pub is-some : {A : Type 0} → Option A → Bool
+is-some none = false
+is-some (some a) = true
 
 abbrev pub if : {A : Type 0} → Bool → A → A → A
 if true a b = a

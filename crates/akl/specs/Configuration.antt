@@ -1,8 +1,8 @@
 -- Configurations: boxes, guarded goals and and-box members; the contexts in which they stand; environments; the start.
-use mathlib.Core.List.{List, [], _∷_, _++_}
-use Prim.Native.Nat.{ℕ, zero, suc}
+use mathlib.Core.List.{List, [], _++_}
+use Prim.Native.Nat.{ℕ}
 use Rattle.constraint.specs.Constraint.{Store}
-use Rattle.akl.specs.Base.{Name, size, range}
+use Rattle.akl.specs.Base.{size, range}
 use Rattle.akl.specs.Syntax.{Op, Stmt}
 use Rattle.akl.specs.Reader.{Query}
 

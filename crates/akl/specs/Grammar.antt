@@ -1,11 +1,9 @@
 -- The grammar: concrete syntax trees as written. Parse.antt finds the tree of a text's tokens. Which tokens a tree has, and
 -- that a text has one tree, is said in the crate `texts`.
-use mathlib.Core.List.{List, [], _∷_, _++_}
-use Prim.Native.Nat.{ℕ}
-use Rattle.constraint.specs.Constraint.{Con, ctrue, cfail, ceq, capp}
-use Rattle.akl.specs.Base.{Name, bytes, if}
+use mathlib.Core.List.{List}
+use Rattle.constraint.specs.Constraint.{Con}
+use Rattle.akl.specs.Base.{Name}
 use Rattle.akl.specs.Syntax.{Op}
-use Rattle.akl.specs.Token.{class-of, digit-class, Token, name, digits, variable, sign, Mark, open-bracket, close-bracket, comma, full-stop, colon, defines, equals, semicolon, operator}
 
 mutual
   -- "A statement is one or more simple statements joined by commas"

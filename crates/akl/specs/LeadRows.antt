@@ -3,10 +3,10 @@
 use mathlib.Core.List.{List, [], _∷_}
 use Prim.Native.Nat.{ℕ}
 use Prim.Native.String.{String}
-use Rattle.constraint.specs.Constraint.{Con, ctrue, cfail, ceq, capp, Store}
-use Rattle.akl.specs.Base.{Name, bytes}
+use Rattle.constraint.specs.Constraint.{ctrue, cfail, ceq, capp}
+use Rattle.akl.specs.Base.{bytes}
 use Rattle.akl.specs.Syntax.{Var, number, level, Op, wait, cond, commit, Stmt, atom, call, comp, hide, choice, no-more, clause, Def, Program}
-use Rattle.akl.specs.Configuration.{goal, member, guarded, Node, or, and, stmt, choice-box, guard, Nodes, nil, cons, one, Config}
+use Rattle.akl.specs.Configuration.{goal, member, guarded, Node, or, and, stmt, choice-box, guard, Nodes, nil, cons, one}
 use Rattle.akl.specs.RowKinds.{Lead, leads, x, y, z, _is_, config, take, says}
 
 -- variables of bodies and guards

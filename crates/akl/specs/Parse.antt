@@ -1,12 +1,12 @@
 -- The tree of a text's tokens, if there is one, by descent: statement, bracket and clause call each other.
 -- The number n bounds the depth of calls; of any four calls, each in the one before, at least one passes a token, so that 4
 -- for each token are enough (crates/texts shows that no text of the grammar is lost).
-use mathlib.Core.List.{List, [], _∷_, _++_}
-use mathlib.Core.Bool.{Bool, true, false, _&&_, _||_, not}
+use mathlib.Core.List.{List, [], _∷_}
+use mathlib.Core.Bool.{_||_, not}
 use mathlib.Core.Option.{Option, some, none}
 use Prim.Native.Nat.{ℕ, zero, suc, _+_, _*_}
 use lib.Dec.{eqb}
-use Rattle.constraint.specs.Constraint.{Con, ctrue, cfail, ceq, capp}
+use Rattle.constraint.specs.Constraint.{ctrue, cfail, ceq, capp}
 use Rattle.akl.specs.Base.{Name, bytes, size, same, when, if, _>>=_}
 use Rattle.akl.specs.Syntax.{Op, wait, cond, commit}
 use Rattle.akl.specs.Token.{Token, name, digits, variable, sign, Mark, open-bracket, close-bracket, comma, full-stop, colon, defines, equals, semicolon, operator}
@@ -129,7 +129,9 @@ unfoldable mutual
 
   pub simple : ℕ → List Token → Read Simple
   simple zero ts = none
-  simple (suc n) ts = elim (after open-bracket ts) [ some r ↦ a-bracket n r >>= (λ b. after close-bracket (b .1) >>= λ u. some (bracket (b .0), u)) | none ↦ elim (a-variable ts) [ some x ↦ after equals (x .1) >>= (λ r. equation n (x .0) r) | none ↦ a-name ts >>= λ p. named n (p .0) (p .1) ] ]
+  simple (suc n) ts =
+      elim (after open-bracket ts) [ some r ↦ a-bracket n r >>= (λ b. after close-bracket (b .1) >>= λ u. some (bracket (b .0), u)) | none ↦
+      elim (a-variable ts) [ some x ↦ after equals (x .1) >>= (λ r. equation n (x .0) r) | none ↦ a-name ts >>= λ p. named n (p .0) (p .1) ] ]
 
   -- what stands between the round signs: a hidden list or none, a statement, and then an operator or not
   pub a-bracket : ℕ → List Token → Read Bracket

@@ -1,7 +1,6 @@
 -- Parts. Document 01: "one for every box, guarded goal, clause, composition, hiding, choice statement, atom, stored
 -- constraint, and local or hidden variable".
-use mathlib.Core.List.{List, [], _∷_}
-use Prim.Native.Nat.{ℕ, zero, suc, _+_}
+use Prim.Native.Nat.{ℕ, _+_}
 use Rattle.akl.specs.Base.{size}
 use Rattle.akl.specs.Syntax.{Stmt, atom, call, comp, hide, choice, Clauses, no-more, clause}
 use Rattle.akl.specs.Configuration.{Kind, Node, or, and, stmt, choice-box, guard, Nodes, nil, cons}

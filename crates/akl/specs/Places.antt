@@ -3,12 +3,10 @@
 use mathlib.Core.List.{List, [], _∷_, _++_}
 use mathlib.Core.Bool.{Bool, _&&_}
 use mathlib.Core.Option.{Option}
-use Prim.Native.Nat.{ℕ, zero, suc, _+_}
+use Prim.Native.Nat.{ℕ, suc, _+_}
 use lib.Dec.{leb, ltb}
-use Rattle.constraint.specs.Constraint.{Store}
 use Rattle.akl.specs.Base.{nth}
-use Rattle.akl.specs.Syntax.{Stmt}
-use Rattle.akl.specs.Configuration.{Kind, goal, member, guarded, Node, or, and, stmt, choice-box, guard, Nodes, nil, cons, _+n_, one, Ctx, top, in-or, in-and, in-choice, in-guard, Config}
+use Rattle.akl.specs.Configuration.{Kind, Node, or, and, stmt, choice-box, guard, Nodes, nil, cons, _+n_, one, Ctx, top, in-or, in-and, in-choice, in-guard, Config}
 
 -- A node in its context.
 pub data Place : Type 0 where

@@ -2,12 +2,12 @@
 use mathlib.Core.List.{List, [], _∷_, _++_, map}
 use mathlib.Core.Bool.{Bool, true, false, _&&_, _||_, not}
 use mathlib.Core.Option.{Option, some, none}
-use Prim.Native.Nat.{ℕ, zero, suc, _+_}
+use Prim.Native.Nat.{ℕ, suc}
 use lib.Dec.{eqb, leb, ltb}
 use Rattle.constraint.specs.Constraint.{Con, ctrue, cfail, ceq, capp, mapCon}
-use Rattle.akl.specs.Base.{Name, bytes, size, same, among, repeats, first, last, once, least, any, flat, if, _>>=_, Result, refused, ok}
+use Rattle.akl.specs.Base.{Name, size, same, among, repeats, first, last, once, least, any, flat, if, _>>=_, Result, refused, ok}
 use Rattle.akl.specs.Limits.{program-bytes, query-bytes, most-definitions, most-arguments, most-query-variables, most-depth}
-use Rattle.akl.specs.Syntax.{Var, number, level, Op, wait, cond, commit, Stmt, atom, call, comp, hide, choice, Clauses, no-more, clause, Def, Program, defined}
+use Rattle.akl.specs.Syntax.{Var, number, level, Op, wait, cond, commit, Stmt, atom, call, comp, hide, choice, Clauses, no-more, clause, Def, Program}
 use Rattle.akl.specs.Token.{tokens}
 use Rattle.akl.specs.Grammar.{Statement, single, joined, Simple, constraint, program, bracket, Bracket, plain, hiding, choosing, Clause, written, Others, end, and-also, Definition}
 use Rattle.akl.specs.Parse.{parse-query, parse-program}

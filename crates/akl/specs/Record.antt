@@ -1,16 +1,13 @@
 -- The printed record: what `runcheck` prints for three texts.
-use mathlib.Core.List.{List, [], _∷_, _++_}
-use mathlib.Core.Bool.{Bool}
-use Prim.Native.Nat.{ℕ, zero, suc}
-use lib.Dec.{ltb}
-use Rattle.akl.specs.Base.{Name, bytes, size, flat, decimal, if, Result, refused, ok}
+use mathlib.Core.List.{List, _++_}
+use Prim.Native.Nat.{ℕ}
+use Rattle.akl.specs.Base.{Name, bytes, flat, decimal, Result, refused, ok}
 use Rattle.akl.specs.Limits.{most-parts, answer-bytes}
-use Rattle.akl.specs.Syntax.{Program}
 use Rattle.akl.specs.Reader.{Query, read-program, read-query}
-use Rattle.akl.specs.StepsText.{Step, read-steps}
+use Rattle.akl.specs.StepsText.{read-steps}
 use Rattle.akl.specs.Configuration.{Config, start-config}
 use Rattle.akl.specs.Step.{within-limits, Run, steps}
-use Rattle.akl.specs.Answers.{Answer, answers, answer-text, state, state-text}
+use Rattle.akl.specs.Answers.{Answer, answers, answer-text, fitted, state, state-text}
 
 -- "new or starting configuration over 2,048 parts"
 unfoldable pub start : ℕ → Query → Result Config
@@ -23,7 +20,11 @@ pub record Checked : Type 0 where
   pub run : Run
 
 unfoldable pub checked-run : ℕ → List ℕ → List ℕ → List ℕ → Result Checked
-checked-run limit rules query text = elim (read-program rules) [ refused n ↦ refused n | ok P ↦ elim (read-query P query) [ refused n ↦ refused n | ok q ↦ elim (read-steps text) [ refused n ↦ refused n | ok ss ↦ elim (start limit q) [ refused n ↦ refused n | ok c ↦ ok (record { variables = q .variables; run = steps limit P c 0 ss }) ] ] ] ]
+checked-run limit rules query text =
+    elim (read-program rules) [ refused n ↦ refused n | ok P ↦
+    elim (read-query P query) [ refused n ↦ refused n | ok q ↦
+    elim (read-steps text) [ refused n ↦ refused n | ok ss ↦
+    elim (start limit q) [ refused n ↦ refused n | ok c ↦ ok (record { variables = q .variables; run = steps limit P c 0 ss }) ] ] ] ]
 
 -- "(steps accepted; refusal of the next step or 0; answers; state)"
 abbrev line : List ℕ → List ℕ
@@ -34,7 +35,7 @@ two-lines accepted refusal = line (bytes "accepted " ++ decimal accepted) ++ lin
 
 -- "It lends 4,096 bytes per answer and prints `answer long` on 17."
 unfoldable pub answer-line : List Name → Answer → List ℕ
-answer-line xs a = let t = answer-text xs a in line (bytes "answer " ++ if (ltb answer-bytes (size t)) (bytes "long") t)
+answer-line xs a = line (bytes "answer " ++ elim (fitted answer-bytes (answer-text xs a)) [ refused n ↦ bytes "long" | ok t ↦ t ])
 
 -- "If a text or the start is refused, only the first two lines stand, with 0 accepted."
 unfoldable pub printed : Result Checked → List ℕ

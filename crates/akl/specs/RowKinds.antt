@@ -1,20 +1,20 @@
 -- The kinds of rows that the table has (Rows.antt), and how each is computed. What a row expects is worked out by hand from
 -- document 01.
-use mathlib.Core.List.{List, [], _∷_}
+use mathlib.Core.List.{List, []}
 use mathlib.Core.Bool.{Bool, true, false, not}
-use Prim.Native.Nat.{ℕ, zero, suc}
+use Prim.Native.Nat.{ℕ}
 use Prim.Native.String.{String}
 use lib.Dec.{eqb}
 use Rattle.constraint.specs.Constraint.{Con, capp, Store}
 use Rattle.constraint.specs.Solve.{satisfiable?, quiet?}
 use Rattle.akl.specs.Base.{Name, bytes, same, Result, refused, ok}
 use Rattle.akl.specs.Limits.{most-parts}
-use Rattle.akl.specs.Syntax.{number, Op, wait, Stmt, atom, Program}
+use Rattle.akl.specs.Syntax.{number, wait, atom, Program}
 use Rattle.akl.specs.Reader.{read-program, read-query}
 use Rattle.akl.specs.StepsText.{Step, read-steps}
 use Rattle.akl.specs.Configuration.{goal, member, Node, or, and, stmt, choice-box, guard, Nodes, one, Config}
 use Rattle.akl.specs.Parts.{parts}
-use Rattle.akl.specs.Step.{step, Run}
+use Rattle.akl.specs.Step.{step}
 use Rattle.akl.specs.Answers.{answer}
 use Rattle.akl.specs.Record.{start, Checked, checked-run, runcheck}
 use Rattle.akl.specs.WellFormed.{well-formed}

@@ -3,11 +3,11 @@
 use mathlib.Core.List.{List, [], _∷_, _++_, map}
 use mathlib.Core.Bool.{Bool, true, false, _&&_, _||_, not}
 use mathlib.Core.Option.{Option, some, none}
-use Prim.Native.Nat.{ℕ, zero, suc, _+_}
+use Prim.Native.Nat.{ℕ, _+_}
 use lib.Dec.{eqb}
 use Rattle.constraint.specs.Constraint.{Con, ctrue, cfail, ceq, capp, mapCon, Store}
 use Rattle.constraint.specs.Solve.{satisfiable?, quiet?}
-use Rattle.akl.specs.Base.{Name, size, range, nth, if, _>>=_}
+use Rattle.akl.specs.Base.{Name, size, range, when, if, _>>=_}
 use Rattle.akl.specs.Syntax.{Var, number, level, Op, wait, cond, commit, Stmt, atom, call, comp, hide, choice, Clauses, no-more, clause, Program, defined, opened}
 use Rattle.akl.specs.Configuration.{Kind, goal, member, guarded, Node, or, and, stmt, choice-box, guard, Nodes, nil, cons, _+n_, one, failure, Ctx, top, in-or, in-and, in-choice, in-guard, plug, env, Config}
 use Rattle.akl.specs.Places.{Place, at}
@@ -40,12 +40,17 @@ stored (capp x f ys) = mapCon number-of (capp x f ys) ∷ []
 abbrev pub fresh : ℕ → ℕ → List Var
 fresh next n = map number (range next n)
 
-abbrev pub solved : {k : Kind} → Nodes k → Bool
-solved nil = true
-solved (cons n ns) = false
+-- nothing stands there
+abbrev pub empty : {k : Kind} → Nodes k → Bool
+empty nil = true
+empty (cons n ns) = false
 
 abbrev pub non-empty : {k : Kind} → Nodes k → Bool
-non-empty ns = not (solved ns)
+non-empty ns = not (empty ns)
+
+-- of an and-box: "with no members it is solved"
+abbrev pub solved : Nodes member → Bool
+solved ms = empty ms
 
 abbrev pub is-wait : Op → Bool
 is-wait wait = true
@@ -65,8 +70,7 @@ is-commit commit = true
 -- A guard that is solved: its locals and store.
 abbrev pub solved-guard : Node goal → Option (List ℕ × Store)
 solved-guard (or ns) = none
-solved-guard (and vs σ nil) = some (vs, σ)
-solved-guard (and vs σ (cons m ms)) = none
+solved-guard (and vs σ ms) = when (solved ms) (vs, σ)
 
 -- the guard is solved, and quiet for the environment
 abbrev pub quiet-guard : Store → Node goal → Bool
@@ -123,7 +127,7 @@ rule-9 next χ σ = provided (not (satisfiable? (env χ ++ σ))) (becomes next �
 
 -- 10 goal failure: "it is empty; its and-box becomes failure"
 abbrev pub rule-10 : ℕ → Ctx goal → Nodes guarded → Change
-rule-10 next χ gs = provided (solved gs) (becomes next χ failure)
+rule-10 next χ gs = provided (empty gs) (becomes next χ failure)
 
 -- 11 guard failure: "its guard is failure; it goes"
 abbrev pub is-failure : Node goal → Bool
@@ -154,28 +158,28 @@ abbrev pub rule-14 : ℕ → Ctx goal → Nodes goal → Nodes goal → Nodes go
 rule-14 next χ l r ns = becomes next χ (or (l +n (ns +n r)))
 
 -- ---------------------------------------------------------------------------------------------
--- The rule of a number at a place of the kind that it takes.
+-- The rule of a number at a place: nothing where the rule takes another kind of place.
 
-abbrev pub on-statement : Program → ℕ → Ctx goal → List ℕ → Store → Nodes member → Nodes member → Stmt → Change
-on-statement P next χ vs σ l r (atom c) = rule-1 next χ vs σ l r c
-on-statement P next χ vs σ l r (call p xs) = rule-2 P next (in-and χ vs σ l r) p xs
-on-statement P next χ vs σ l r (comp a b) = rule-3 next χ vs σ l r a b
-on-statement P next χ vs σ l r (hide n a) = rule-4 next χ vs σ l r n a
-on-statement P next χ vs σ l r (choice op cs) = rule-5 next (in-and χ vs σ l r) op cs
+abbrev pub on-statement : Program → ℕ → ℕ → Ctx goal → List ℕ → Store → Nodes member → Nodes member → Stmt → Change
+on-statement P next rule χ vs σ l r (atom c) = provided (eqb rule 1) (rule-1 next χ vs σ l r c)
+on-statement P next rule χ vs σ l r (call p xs) = provided (eqb rule 2) (rule-2 P next (in-and χ vs σ l r) p xs)
+on-statement P next rule χ vs σ l r (comp a b) = provided (eqb rule 3) (rule-3 next χ vs σ l r a b)
+on-statement P next rule χ vs σ l r (hide n a) = provided (eqb rule 4) (rule-4 next χ vs σ l r n a)
+on-statement P next rule χ vs σ l r (choice op cs) = provided (eqb rule 5) (rule-5 next (in-and χ vs σ l r) op cs)
 
-abbrev pub on-or-box : ℕ → Ctx goal → Nodes goal → Change
-on-or-box next top ns = none
-on-or-box next (in-or χ l r) ns = rule-14 next χ l r ns
-on-or-box next (in-guard χ b) ns = none
+abbrev pub on-or-box : ℕ → ℕ → Ctx goal → Nodes goal → Change
+on-or-box next rule top ns = none
+on-or-box next rule (in-or χ l r) ns = provided (eqb rule 14) (rule-14 next χ l r ns)
+on-or-box next rule (in-guard χ b) ns = none
 
 unfoldable pub effect : Program → ℕ → ℕ → Place → Change
-effect P next rule (at (in-and χ vs σ l r) (stmt s)) = on-statement P next χ vs σ l r s
+effect P next rule (at (in-and χ vs σ l r) (stmt s)) = on-statement P next rule χ vs σ l r s
 effect P next rule (at (in-and χ vs σ l r) (choice-box op gs)) =
     if (eqb rule 6) (rule-6 next χ vs σ l r op gs)
-    (if (eqb rule 10) (rule-10 next χ gs) (rule-12 next χ vs σ l r op gs))
+    (if (eqb rule 10) (rule-10 next χ gs) (provided (eqb rule 12) (rule-12 next χ vs σ l r op gs)))
 effect P next rule (at (in-choice χ op l r) (guard g b)) =
     if (eqb rule 7) (rule-7 next χ op l r g b)
     (if (eqb rule 8) (rule-8 next χ op l r g b)
-    (if (eqb rule 11) (rule-11 next χ op l r g) (rule-13 next χ op l r g b)))
-effect P next rule (at χ (and vs σ ms)) = rule-9 next χ σ
-effect P next rule (at χ (or ns)) = on-or-box next χ ns
+    (if (eqb rule 11) (rule-11 next χ op l r g) (provided (eqb rule 13) (rule-13 next χ op l r g b))))
+effect P next rule (at χ (and vs σ ms)) = provided (eqb rule 9) (rule-9 next χ σ)
+effect P next rule (at χ (or ns)) = on-or-box next rule χ ns

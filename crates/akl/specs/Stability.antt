@@ -4,23 +4,19 @@
 use mathlib.Core.List.{List, [], _∷_, _++_}
 use mathlib.Core.Bool.{Bool, true, false, _&&_, not}
 use mathlib.Core.Option.{Option, some, none}
-use Prim.Native.Nat.{ℕ, zero, suc}
+use Prim.Native.Nat.{ℕ}
 use Rattle.constraint.specs.Constraint.{Store}
 use Rattle.constraint.specs.Solve.{quiet?}
-use Rattle.akl.specs.Base.{any, all, range, size}
+use Rattle.akl.specs.Base.{is-some, any, all, range, size}
 use Rattle.akl.specs.Syntax.{Program}
 use Rattle.akl.specs.Configuration.{Kind, Node, or, and, stmt, choice-box, guard, Nodes, nil, cons, Ctx, top, env, Config}
 use Rattle.akl.specs.Places.{Place, at, places, place-number, holder-number, inside}
 use Rattle.akl.specs.Table.{Mode, determinate, nondeterminate, Rewrites, itself, holder, Row, table, rule-row, kind-at, same-kind}
-use Rattle.akl.specs.Rules.{Change, effect}
+use Rattle.akl.specs.Rules.{effect}
 
 -- The place is of the kind that the row's rule takes.
 abbrev pub fits-row : Row → Place → Bool
 fits-row w p = same-kind (kind-at p) (w .takes)
-
-abbrev pub is-some : {A : Type 0} → Option A → Bool
-is-some none = false
-is-some (some a) = true
 
 abbrev pub is-determinate : Mode → Bool
 is-determinate determinate = true

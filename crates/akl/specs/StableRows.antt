@@ -3,7 +3,7 @@ use mathlib.Core.List.{List, [], _∷_}
 use Prim.Native.Nat.{ℕ}
 use Rattle.constraint.specs.Constraint.{ctrue, cfail}
 use Rattle.akl.specs.Limits.{most-parts}
-use Rattle.akl.specs.Syntax.{Op, wait, cond, commit, Stmt, atom, comp, hide, choice, no-more, clause}
+use Rattle.akl.specs.Syntax.{wait, cond, commit, atom, comp, hide, choice, no-more, clause}
 use Rattle.akl.specs.Configuration.{goal, member, guarded, Node, or, and, stmt, choice-box, guard, Nodes, nil, cons, one}
 use Rattle.akl.specs.RowKinds.{Row, prints, steps-from, x, _is_, top-box, config, take, says}
 

@@ -1,19 +1,19 @@
 -- The outcome of a step and of a list of steps on a program and a configuration: refusals 10 to 15 in their order.
 use mathlib.Core.List.{List, [], _∷_}
-use mathlib.Core.Bool.{Bool, true, false, _&&_, not}
+use mathlib.Core.Bool.{Bool, true, false, _&&_}
 use mathlib.Core.Option.{Option, some, none}
-use Prim.Native.Nat.{ℕ, zero, suc, _+_}
+use Prim.Native.Nat.{ℕ, suc}
 use lib.Dec.{eqb, ltb}
-use Rattle.akl.specs.Base.{if, Result, refused, ok}
+use Rattle.akl.specs.Base.{is-some, if, Result, refused, ok}
 use Rattle.akl.specs.Limits.{last-number}
 use Rattle.akl.specs.Syntax.{Program}
 use Rattle.akl.specs.StepsText.{Step}
-use Rattle.akl.specs.Configuration.{Kind, Node, Ctx, Config}
+use Rattle.akl.specs.Configuration.{Config}
 use Rattle.akl.specs.Places.{Place, at, place, holder-number, inside}
 use Rattle.akl.specs.Parts.{parts}
-use Rattle.akl.specs.Table.{Row, rule-row, kind-at, same-kind}
+use Rattle.akl.specs.Table.{Row, rule-row}
 use Rattle.akl.specs.Rules.{effect}
-use Rattle.akl.specs.Stability.{stable, fits-row, is-some}
+use Rattle.akl.specs.Stability.{stable, fits-row}
 
 -- "The argument is 0 except in rule 12. There it is the place of a stable goal that is or contains the and-box, else 13."
 abbrev pub splitting : ℕ

@@ -1,13 +1,13 @@
 -- Steps texts. Document 01: "A steps text has one step a line, each line ended by a newline: rule, place, argument, as
 -- three decimal numbers below 2^32 with one space between; leading zeros are allowed."
-use mathlib.Core.List.{List, [], _∷_, _++_}
-use mathlib.Core.Bool.{Bool, true, false, _&&_}
+use mathlib.Core.List.{List, [], _∷_}
+use mathlib.Core.Bool.{_&&_}
 use mathlib.Core.Option.{Option, some, none}
 use Prim.Native.Nat.{ℕ, zero, suc, _+_, _*_, _-_}
 use lib.Dec.{eqb, leb, ltb}
 use Rattle.akl.specs.Base.{size, when, if, _>>=_, Result, refused, ok}
 use Rattle.akl.specs.Limits.{steps-bytes, step-number}
-use Rattle.akl.specs.Token.{class-of, digit-class, span}
+use Rattle.akl.specs.Token.{digit-class, span}
 
 pub record Step : Type 0 where
   pub rule : ℕ

@@ -1,11 +1,11 @@
 -- The abstract syntax that a program and a query stand for, with bound variables as levels.
 use mathlib.Core.List.{List, [], _∷_, map}
 use mathlib.Core.Option.{Option, some, none}
-use mathlib.Core.Bool.{Bool, true, false, _&&_}
-use Prim.Native.Nat.{ℕ, zero, suc, _-_}
+use mathlib.Core.Bool.{_&&_}
+use Prim.Native.Nat.{ℕ, zero, suc}
 use lib.Dec.{eqb}
 use Rattle.constraint.specs.Constraint.{Con, mapCon}
-use Rattle.akl.specs.Base.{Name, size, same, if}
+use Rattle.akl.specs.Base.{Name, same, if}
 
 -- A variable of a statement: one of the configuration, by its number; or a bound one, by its level. The parameters of
 -- a definition are the levels from 0; each hidden list goes on counting inwards. So "a hidden name covers an outer one

@@ -7,7 +7,7 @@ use Prim.Native.Nat.{ℕ, zero, suc}
 use lib.Dec.{eqb}
 use Rattle.akl.specs.Base.{nth}
 use Rattle.akl.specs.Syntax.{Stmt, atom, call, comp, hide, choice}
-use Rattle.akl.specs.Configuration.{goal, Node, or, and, stmt, choice-box, guard, Ctx, top, in-or, in-guard}
+use Rattle.akl.specs.Configuration.{goal, or, and, stmt, choice-box, guard, Ctx, top, in-or, in-guard}
 use Rattle.akl.specs.Places.{Place, at}
 
 -- "the kind of place each takes". An or-box that is a member of an or-box is told from the others.

@@ -5,18 +5,18 @@
 -- a higher one, and parts fit."
 use mathlib.Core.List.{List, [], _∷_, _++_, map}
 use mathlib.Core.Bool.{Bool, true, false, _&&_, _||_, not}
-use Prim.Native.Nat.{ℕ, zero, suc, _+_, max}
-use lib.Dec.{eqb, leb, ltb}
-use Rattle.constraint.specs.Constraint.{Con, ctrue, cfail, ceq, capp, Store, varsAll}
+use Prim.Native.Nat.{ℕ, suc, _+_, max}
+use lib.Dec.{leb, ltb}
+use Rattle.constraint.specs.Constraint.{Con, ctrue, cfail, ceq, capp, varsAll}
 use Rattle.constraint.specs.Solve.{elem, distinct}
-use Rattle.akl.specs.Base.{Name, bytes, size, same, repeats, any, all, range}
+use Rattle.akl.specs.Base.{Name, bytes, is-some, size, same, repeats, any, all, range}
 use Rattle.akl.specs.Limits.{name-bytes, most-definitions, most-arguments, most-query-variables, most-depth, last-number}
 use Rattle.akl.specs.Syntax.{Var, number, level, Stmt, atom, call, comp, hide, choice, Clauses, no-more, clause, Def, Program, defined}
 use Rattle.akl.specs.Token.{Class, small, capital, digit, underscore, blank, mark, other, class-of, word-class, digit-class}
 use Rattle.akl.specs.Reader.{twice}
 use Rattle.akl.specs.Configuration.{Kind, goal, Node, or, and, stmt, choice-box, guard, Nodes, nil, cons, Config}
 use Rattle.akl.specs.Parts.{parts}
-use Rattle.akl.specs.Stability.{locals, locals-all, is-some}
+use Rattle.akl.specs.Stability.{locals, locals-all}
 
 -- ---------------------------------------------------------------------------------------------
 -- "its program and statements would pass 2 to 7"

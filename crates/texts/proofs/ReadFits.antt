@@ -9,12 +9,11 @@ use native.Mathlib.Omega.{arith}
 use lib.Dec.{T, eqb, leb, ltb, leb→le, le→leb, ltb→lt, lt→ltb, nltb→le, nleb→lt}
 use Rattle.constraint.specs.Constraint.{Con, ctrue, cfail, ceq, capp, mapCon, In}
 use Rattle.constraint.proofs.Lists.{and-T, or-T, not-T, In-append}
-use Rattle.akl.specs.Base.{Name, size, same, among, any, all, repeats, first, last, if, _>>=_}
+use Rattle.akl.specs.Base.{is-some, Name, size, same, among, any, all, repeats, first, last, if, _>>=_}
 use Rattle.akl.specs.Limits.{most-arguments, most-depth}
 use Rattle.akl.specs.Syntax.{Var, number, level, Op, Stmt, atom, call, comp, hide, choice, Clauses, no-more, clause, Def, Program, defined}
 use Rattle.akl.specs.Grammar.{Statement, single, joined, Simple, constraint, program, bracket, Bracket, plain, hiding, choosing, Clause, written, Others, end, and-also, Definition}
 use Rattle.akl.specs.Reader.{names-in, operator-of, mixed, fault, Around, unbound, hiding-also, deeper, unknown, constraint-faults, statement-faults, simple-faults, bracket-faults, clause-faults, others-faults, not-bound, statement-free, simple-free, bracket-free, clause-free, others-free, variable-of, statement-of, simple-of, bracket-of, clause-of, others-of}
-use Rattle.akl.specs.Stability.{is-some}
 use Rattle.akl.specs.WellFormed.{variable-fits, few, constraint-fits, statement-fits, clauses-fit, some-clause, spelled-name, spelled-digits, is-comp, bracketed, depth, clauses-depth, variable-numbers, list-numbers, constraint-numbers, numbers, clauses-numbers}
 use Rattle.texts.specs.Spelled.{Variables, SpelledCon, SpelledStatement, SpelledSimple, SpelledBracket, SpelledClause, SpelledOthers}
 use Rattle.theory.proofs.Locals.{size-map, size-append}

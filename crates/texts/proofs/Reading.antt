@@ -8,14 +8,13 @@ use Prim.Native.Nat.{ℕ, zero, suc, _+_, _≤_, _<_}
 use native.Mathlib.Omega.{arith}
 use lib.Dec.{T, eqb, leb, ltb, le→leb, nltb→le}
 use Rattle.constraint.proofs.Lists.{and-T, or-T, not-T}
-use Rattle.akl.specs.Base.{Name, size, same, repeats, any, all, flat, least, if, _>>=_, Result, refused, ok}
+use Rattle.akl.specs.Base.{is-some, Name, size, same, repeats, any, all, flat, least, if, _>>=_, Result, refused, ok}
 use Rattle.akl.specs.Limits.{program-bytes, query-bytes, most-definitions, most-arguments, most-query-variables, most-depth}
 use Rattle.akl.specs.Syntax.{Stmt, Def, Program, defined}
 use Rattle.akl.specs.Token.{Token, tokens}
 use Rattle.akl.specs.Grammar.{Statement, Definition}
 use Rattle.akl.specs.Parse.{parse-query, parse-program}
 use Rattle.akl.specs.Reader.{fault, Around, statement-faults, query-variables, statement-free, statement-of, heads, twice, definition-faults, program-faults, definition-of, checked, read-program, Query, query-faults, read-query}
-use Rattle.akl.specs.Stability.{is-some}
 use Rattle.akl.specs.WellFormed.{statement-passes, definition-passes, program-passes, names-pass, spelled-variable, spelled-predicate}
 use Rattle.theory.specs.Formed.{QueryFits}
 use Rattle.texts.specs.Readable.{program-of, query-of, around-statement, statement-in}

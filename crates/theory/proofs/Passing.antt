@@ -9,13 +9,12 @@ use native.Mathlib.Omega.{arith}
 use native.Mathlib.Nat.{not-suc-le-zero}
 use lib.Dec.{T, leb, ltb, eqb, ltb→lt, lt→ltb, leb→le, le→leb, eqb→eq}
 use Rattle.constraint.specs.Constraint.{Con, ctrue, cfail, ceq, capp, mapCon, In}
-use Rattle.constraint.proofs.Lists.{none-some, and-T, In-append}
-use Rattle.akl.specs.Base.{Name, size, same, all, range, if}
+use Rattle.constraint.proofs.Lists.{and-T, In-append}
+use Rattle.akl.specs.Base.{is-some, Name, size, same, all, range, if}
 use Rattle.akl.specs.Limits.{most-depth, most-definitions}
 use Rattle.akl.specs.Syntax.{Var, number, level, Op, Stmt, atom, call, comp, hide, choice, Clauses, no-more, clause, Def, Program, defined, open-level, open-var, opened, opened-clauses}
 use Rattle.akl.specs.Reader.{twice}
 use Rattle.akl.specs.Rules.{fresh}
-use Rattle.akl.specs.Stability.{is-some}
 use Rattle.akl.specs.WellFormed.{variable-fits, few, constraint-fits, statement-fits, clauses-fit, some-clause, spelled-name, spelled-digits, spelled-predicate, is-comp, bracketed, depth, clauses-depth, statement-passes, definition-passes, program-passes, variable-numbers, list-numbers, constraint-numbers, numbers, clauses-numbers}
 use Rattle.theory.proofs.Closed.{any-number}
 use Rattle.theory.proofs.Locals.{size-map, size-range}

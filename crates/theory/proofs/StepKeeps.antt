@@ -9,12 +9,12 @@ use native.Mathlib.Omega.{arith}
 use lib.Dec.{T, leb}
 use Rattle.constraint.specs.Constraint.{Con, ctrue, cfail, ceq, capp, Store, In}
 use Rattle.constraint.proofs.Lists.{and-T, In-append}
-use Rattle.akl.specs.Base.{Name, size, all, range}
+use Rattle.akl.specs.Base.{is-some, Name, size, all, range}
 use Rattle.akl.specs.Syntax.{Var, number, level, Op, Stmt, atom, call, comp, hide, choice, Clauses, no-more, clause, Program, opened}
 use Rattle.akl.specs.Configuration.{Kind, goal, member, guarded, Node, or, and, stmt, choice-box, guard, Nodes, nil, cons, _+n_, one, failure, Ctx}
 use Rattle.akl.specs.Places.{Place}
 use Rattle.akl.specs.Rules.{stored, number-of, fresh, guarded-goals, hidden-in}
-use Rattle.akl.specs.Stability.{locals, locals-all, is-some}
+use Rattle.akl.specs.Stability.{locals, locals-all}
 use Rattle.akl.specs.WellFormed.{variable-fits, few, constraint-fits, stored-fits, spelled-name, spelled-digits, statement-fits, statement-passes, program-passes, statements-pass}
 use Rattle.theory.specs.Scope.{Sub, scope}
 use Rattle.theory.specs.Transition.{Transition, constraint-atom, program-atom, composition, hiding, choosing, promotion, condition, committing, environment-failure, goal-failure, guard-failure, splitting, distribution, flattening}
