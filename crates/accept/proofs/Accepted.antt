@@ -12,15 +12,17 @@ use Rattle.akl.specs.Limits.{last-number}
 use Rattle.akl.specs.Syntax.{Program}
 use Rattle.akl.specs.StepsText.{Step}
 use Rattle.akl.specs.Configuration.{Config}
-use Rattle.akl.specs.Places.{Place, at, place}
+use Rattle.akl.specs.Places.{Place, at, place, holder-number}
 use Rattle.akl.specs.Parts.{parts}
 use Rattle.akl.specs.Table.{Row, rule-row}
 use Rattle.akl.specs.Rules.{Change, effect}
 use Rattle.akl.specs.Stability.{fits-row, stable}
 use Rattle.akl.specs.Step.{splitting, argument-fits, holds-box, box-of, stable-around, argument-stable, within-limits, after-condition, after-place, after-rule, step}
-use Rattle.accept.specs.Accepts.{StableAround, Accepts, Holds-box}
+use Rattle.accept.specs.Accepts.{Contains, StableAround, Accepts}
 use Rattle.accept.proofs.Effects.{effect-complete}
-use Rattle.accept.proofs.EffectSound.{effect-sound}
+use Rattle.accept.proofs.EffectSound.{whole, effect-sound}
+use Rattle.accept.proofs.PlaceLaws.{place-whole}
+use Rattle.accept.proofs.Within.{holds-iff}
 use Rattle.accept.proofs.Stable.{transition-row, inside-T, stable-iff}
 
 refused-ok : {A : Type 0} (n : ℕ) (a : A) → _≡_ {A = Result A} (refused n) (ok a) → ⊥
@@ -55,32 +57,35 @@ limits-iff limit c d = (λ e. to-it (ltb (suc last-number) (c .next)) (ltb limit
 -- ---------------------------------------------------------------------------------------------
 -- The argument.
 
-holds-T : (pl : Place) (p : ℕ) → T (holds-box pl p) ↔ Holds-box pl p
-holds-T (at χ n) p = inside-T χ n p
-
 module _ (P : Program) (c : Config) where
-  around-iff : (pl : Place) (a : ℕ) → T (stable-around P c pl (place c a)) ↔ StableAround P c pl a
-  around-iff pl a = (λ t. to-it (place c a) refl t, λ h. subst (λ o. T (stable-around P c pl o)) (sym (h .is-place)) (and-T (holds-box (h .around) (box-of pl)) (stable P c (h .around)) .1 (holds-T (h .around) (box-of pl) .1 (h .contains), stable-iff P c (h .around) .1 (h .stable))))
+  holds-T : (q pl : Place) → whole q ≡ c .root → whole pl ≡ c .root → T (holds-box q (box-of pl)) ↔ Contains q pl
+  holds-T (at χ n) (at χ′ m) e f =
+      let a = inside-T χ n (holder-number χ′) in
+      let b = holds-iff c χ n χ′ m e f in
+      (λ h. b .0 (a .0 h), λ h. a .1 (b .1 h))
+
+  around-iff : (pl : Place) (a : ℕ) → whole pl ≡ c .root → T (stable-around P c pl (place c a)) ↔ StableAround P c pl a
+  around-iff pl a f = (λ t. to-it (place c a) refl t, λ h. subst (λ o. T (stable-around P c pl o)) (sym (h .is-place)) (and-T (holds-box (h .around) (box-of pl)) (stable P c (h .around)) .1 (holds-T (h .around) pl (place-whole c a (h .around) (h .is-place)) f .1 (h .contains), stable-iff P c (h .around) (place-whole c a (h .around) (h .is-place)) .1 (h .stable))))
     where
       to-it : (o : Option Place) → place c a ≡ o → T (stable-around P c pl o) → StableAround P c pl a
       to-it (some q) e t =
           let k = and-T (holds-box q (box-of pl)) (stable P c q) .0 t in
-          record { around = q; is-place = e; contains = holds-T q (box-of pl) .0 (k .0); stable = stable-iff P c q .0 (k .1) }
+          record { around = q; is-place = e; contains = holds-T q pl (place-whole c a q e) f .0 (k .0); stable = stable-iff P c q (place-whole c a q e) .0 (k .1) }
 
   -- both tests of the argument together
   abbrev Argument : ℕ → ℕ → Place → Type 0
   Argument r a pl = (¬ (r ≡ splitting) → a ≡ 0) × (r ≡ splitting → StableAround P c pl a)
 
-  argument-iff : (r a : ℕ) (pl : Place) → (T (argument-fits c r a) × T (argument-stable P c r pl a)) ↔ Argument r a pl
+  argument-iff : (r a : ℕ) (pl : Place) → whole pl ≡ c .root → (T (argument-fits c r a) × T (argument-stable P c r pl a)) ↔ Argument r a pl
   unfolding argument-fits argument-stable
-  argument-iff r a pl = go (eqb r splitting) (λ t. eqb→eq r splitting t) (λ e. subst (λ x. T (eqb x splitting)) (sym e) (eqb-refl splitting))
+  argument-iff r a pl f = go (eqb r splitting) (λ t. eqb→eq r splitting t) (λ e. subst (λ x. T (eqb x splitting)) (sym e) (eqb-refl splitting))
     where
       known : (o : Option Place) → T (stable-around P c pl o) → T (is-some o)
       known (some q) t = tt
 
       go : (b : Bool) → (T b → r ≡ splitting) → (r ≡ splitting → T b) → (T (if b (is-some (place c a)) (eqb a 0)) × T (if b (stable-around P c pl (place c a)) true)) ↔ Argument r a pl
-      go true f g = (λ h. (λ n. absurd (n (f tt)), λ e. around-iff pl a .0 (h .1)), λ h. let s = around-iff pl a .1 (h .1 (f tt)) in (known (place c a) s, s))
-      go false f g = (λ h. (λ n. eqb→eq a 0 (h .0), λ e. absurd (g e)), λ h. (subst (λ x. T (eqb x 0)) (sym (h .0 (λ e. g e))) (eqb-refl 0), tt))
+      go true u g = (λ h. (λ n. absurd (n (u tt)), λ e. around-iff pl a f .0 (h .1)), λ h. let s = around-iff pl a f .1 (h .1 (u tt)) in (known (place c a) s, s))
+      go false u g = (λ h. (λ n. eqb→eq a 0 (h .0), λ e. absurd (g e)), λ h. (subst (λ x. T (eqb x 0)) (sym (h .0 (λ e. g e))) (eqb-refl 0), tt))
 
 -- ---------------------------------------------------------------------------------------------
 -- The step.
@@ -96,7 +101,7 @@ module _ (limit : ℕ) (P : Program) (c : Config) (s : Step) (d : Config) where
       by-effect w pl ew ep k af true eb (some m) eo e =
           let l = limits-iff limit m d .0 e in
           let f = effect-sound P (c .next) (s .rule) pl w d ew k (eo ∙ ap (λ x. some x) (l .0)) in
-          let a = argument-iff P c (s .rule) (s .argument) pl .0 (af, subst T (sym eb) tt) in
+          let a = argument-iff P c (s .rule) (s .argument) pl (place-whole c (s .place) pl ep) .0 (af, subst T (sym eb) tt) in
           record { at-place = pl; is-place = ep; kind = f .kind; context = f .context; before = f .before; after = f .after; transition = f .transition; result = f .result; no-argument = a .0; argument = a .1; numbers-left = subst (λ x. x .next ≤ suc last-number) (l .0) (l .1); fit = subst (λ x. parts (x .root) ≤ limit) (l .0) (l .2) }
 
       by-kind : (w : Row) (pl : Place) → rule-row (s .rule) ≡ some w → place c (s .place) ≡ some pl → T (argument-fits c (s .rule) (s .argument)) → (b : Bool) → fits-row w pl ≡ b → elim b as (λ x. Result Config) [ false ↦ refused 12 | true ↦ after-condition limit (argument-stable P c (s .rule) pl (s .argument)) (effect P (c .next) (s .rule) pl) ] ≡ ok d → Accepts limit P c s d
@@ -120,7 +125,7 @@ module _ (limit : ℕ) (P : Program) (c : Config) (s : Step) (d : Config) where
       pl = h .at-place
 
       args : T (argument-fits c (s .rule) (s .argument)) × T (argument-stable P c (s .rule) pl (s .argument))
-      args = argument-iff P c (s .rule) (s .argument) pl .1 (h .no-argument, h .argument)
+      args = argument-iff P c (s .rule) (s .argument) pl (place-whole c (s .place) pl (h .is-place)) .1 (h .no-argument, h .argument)
 
       leads-to : effect P (c .next) (s .rule) pl ≡ some d
       leads-to = effect-complete P (c .next) (h .transition) ∙ ap (λ g. some (record { root = g; next = d .next })) (sym (h .result))

@@ -1,6 +1,7 @@
 pub mod Effects
 pub mod EffectSound
 pub mod PlaceLaws
+pub mod Within
 pub mod Inner
 pub mod Stable
 pub mod Accepted

@@ -12,7 +12,7 @@ use Rattle.constraint.proofs.Lists.{and-T, or-T, not-T}
 use Rattle.constraint.proofs.Renamed.{quiet-iff}
 use Rattle.akl.specs.Base.{is-some, nth, size, any, all, range}
 use Rattle.akl.specs.Syntax.{Program}
-use Rattle.akl.specs.Configuration.{Kind, Node, Ctx, top, env, Config}
+use Rattle.akl.specs.Configuration.{Kind, Node, Ctx, top, plug, env, Config}
 use Rattle.akl.specs.Places.{Place, at, places, place, count, place-number, holder-number, inside}
 use Rattle.akl.specs.Table.{Row, table, rule-row, statement-kind, or-kind, kind-at}
 use Rattle.akl.specs.Rules.{Change, effect}
@@ -20,10 +20,12 @@ use Rattle.akl.specs.Stability.{fits-row, is-determinate, rewritten, row-distur
 use Rattle.akl.specs.Step.{splitting}
 use Rattle.theory.specs.Transition.{Transition}
 use Rattle.theory.specs.Transition as Tr
-use Rattle.accept.specs.Accepts.{Inside, Undisturbed, Stable}
+use Rattle.accept.specs.Inner.{AtOrIn}
+use Rattle.accept.specs.Accepts.{Undisturbed, Stable}
 use Rattle.accept.proofs.Effects.{row-range, effect-complete}
-use Rattle.accept.proofs.EffectSound.{effect-sound}
-use Rattle.accept.proofs.PlaceLaws.{no-place}
+use Rattle.accept.proofs.EffectSound.{whole, effect-sound}
+use Rattle.accept.proofs.PlaceLaws.{no-place, place-whole}
+use Rattle.accept.proofs.Within.{Inside, inside-iff}
 use Rattle.accept.proofs.Inner.{Each, quiet-inside-iff}
 
 -- ---------------------------------------------------------------------------------------------
@@ -53,6 +55,24 @@ module _ {P : Program} {N : ℕ} where
   transition-row (Tr.splitting χ vs σ l r us τ b t ts) = record { row = _; is-row = refl; fits = tt; rewrites = refl; mode = λ n. absurd (n refl) }
   transition-row (Tr.distribution χ op l r g gs b) = record { row = _; is-row = refl; fits = tt; rewrites = refl; mode = λ n. tt }
   transition-row (Tr.flattening χ l r ns) = record { row = _; is-row = refl; fits = tt; rewrites = refl; mode = λ n. tt }
+
+-- the goal that is rewritten stands in the configuration
+pub transition-whole : {P : Program} {N r : ℕ} {pl : Place} {k : Kind} {χ : Ctx k} {n n′ : Node k} {N′ : ℕ} → Transition P N r pl k χ n n′ N′ → plug χ n ≡ whole pl
+unfolding plug
+transition-whole (Tr.constraint-atom χ vs σ l r c) = refl
+transition-whole (Tr.program-atom χ p xs b e) = refl
+transition-whole (Tr.composition χ vs σ l r a b) = refl
+transition-whole (Tr.hiding χ vs σ l r n a) = refl
+transition-whole (Tr.choosing χ op cs) = refl
+transition-whole (Tr.promotion χ ws θ l r op vs σ b q) = refl
+transition-whole (Tr.condition χ l r vs σ b q s) = refl
+transition-whole (Tr.committing χ l r vs σ b q s) = refl
+transition-whole (Tr.environment-failure χ vs σ ms u) = refl
+transition-whole (Tr.goal-failure χ vs σ l r op) = refl
+transition-whole (Tr.guard-failure χ op l r b) = refl
+transition-whole (Tr.splitting χ vs σ l r us τ b t ts) = refl
+transition-whole (Tr.distribution χ op l r g gs b) = refl
+transition-whole (Tr.flattening χ l r ns) = refl
 
 -- rule 12 is not determinate
 twelve-mode : (w : Row) → rule-row splitting ≡ some w → T (is-determinate (w .mode)) → ⊥
@@ -107,6 +127,10 @@ quiet-each vs e (σ ∷ l) =
 -- Stability.
 
 module _ (P : Program) (c : Config) {k : Kind} (χ : Ctx k) (n : Node k) where
+  -- as the test goes, by numbers of places
+  abbrev Untouched : Type 0
+  Untouched = (p r : ℕ) (pl : Place) (j : Kind) (χ′ : Ctx j) (m m′ : Node j) (N′ : ℕ) → place c p ≡ some pl → ¬ (r ≡ splitting) → Transition P (c .next) r pl j χ′ m m′ N′ → ¬ Inside χ n (place-number χ′)
+
   -- one rule at one place
   abbrev tests : ℕ → Place → Row → Bool
   tests r pl w = is-determinate (w .mode) && fits-row w pl && inside χ n (rewritten (w .rewrites) pl) && is-some (effect P (c .next) r pl)
@@ -122,20 +146,20 @@ module _ (P : Program) (c : Config) {k : Kind} (χ : Ctx k) (n : Node k) where
   unfolding disturbs
   row-disturbs-it r pl w e t = subst (λ o. T (row-disturbs P c χ n r pl o)) (sym e) t
 
-  quiescent-iff : T (quiescent P c χ n) ↔ Undisturbed P c χ n
+  quiescent-iff : T (quiescent P c χ n) ↔ Untouched
   unfolding quiescent place
   quiescent-iff = (to-it, λ h. not-T (any at-place (places (c .root) top)) .1 (from-it h))
     where
       at-place : Place → Bool
       at-place pl = any (λ r. disturbs P c χ n r pl) (range 1 (size table))
 
-      to-it : T (not (any at-place (places (c .root) top))) → Undisturbed P c χ n
+      to-it : T (not (any at-place (places (c .root) top))) → Untouched
       to-it h p r pl j χ′ m m′ N′ e nr t i =
           let w = transition-row t in
           let d : T (disturbs P c χ n r pl) = row-disturbs-it r pl (w .row) (w .is-row) (and-T (is-determinate (w .row .mode) && fits-row (w .row) pl && inside χ n (rewritten (w .row .rewrites) pl)) (is-some (effect P (c .next) r pl)) .1 (and-T (is-determinate (w .row .mode) && fits-row (w .row) pl) (inside χ n (rewritten (w .row .rewrites) pl)) .1 (and-T (is-determinate (w .row .mode)) (fits-row (w .row) pl) .1 (w .mode nr, w .fits), inside-T χ n (rewritten (w .row .rewrites) pl) .1 (subst (Inside χ n) (sym (w .rewrites)) i)), subst (λ o. T (is-some o)) (sym (effect-complete P (c .next) t)) tt)) in
           not-T (any at-place (places (c .root) top)) .0 h (nth-any at-place (places (c .root) top) p pl e (in-any (λ s. disturbs P c χ n s pl) (range 1 (size table)) r (row-range r (w .row) (w .is-row)) d))
 
-      from-it : Undisturbed P c χ n → T (any at-place (places (c .root) top)) → ⊥
+      from-it : Untouched → T (any at-place (places (c .root) top)) → ⊥
       from-it h t =
           let a = any-nth at-place (places (c .root) top) t in
           let b = any-in (λ r. disturbs P c χ n r (a .1)) (range 1 (size table)) (a .3) in
@@ -151,11 +175,18 @@ module _ (P : Program) (c : Config) {k : Kind} (χ : Ctx k) (n : Node k) where
           same-row : {r : ℕ} {pl : Place} {j : Kind} {χ′ : Ctx j} (v : RowOf r pl χ′) (w : Row) → rule-row r ≡ some w → rewritten (w .rewrites) pl ≡ place-number χ′
           same-row {r} {pl} v w e = ap (λ u. rewritten (u .rewrites) pl) (Option·some-injective w (v .row) (sym e ∙ v .is-row)) ∙ v .rewrites
 
-pub stable-iff : (P : Program) (c : Config) (pl : Place) → T (stable P c pl) ↔ Stable P c pl
+  undisturbed-iff : plug χ n ≡ c .root → Untouched ↔ Undisturbed P c χ
+  undisturbed-iff e = (λ h p r pl j χ′ m m′ N′ ep nr t w. h p r pl j χ′ m m′ N′ ep nr t (by-number p pl χ′ m ep t .1 w), λ h p r pl j χ′ m m′ N′ ep nr t i. h p r pl j χ′ m m′ N′ ep nr t (by-number p pl χ′ m ep t .0 i))
+    where
+      by-number : {r : ℕ} {j : Kind} {m′ : Node j} {N′ : ℕ} (p : ℕ) (pl : Place) (χ′ : Ctx j) (m : Node j) → place c p ≡ some pl → Transition P (c .next) r pl j χ′ m m′ N′ → Inside χ n (place-number χ′) ↔ AtOrIn χ j χ′
+      by-number p pl χ′ m ep t = inside-iff c χ n χ′ m e (transition-whole t ∙ place-whole c p pl ep)
+
+pub stable-iff : (P : Program) (c : Config) (pl : Place) → whole pl ≡ c .root → T (stable P c pl) ↔ Stable P c pl
 unfolding stable
-stable-iff P c (at χ n) =
+stable-iff P c (at χ n) e =
     let a = and-T (quiescent P c χ n) (all (quiet? (locals n) (env χ)) (stores-down n [])) in
     let q = quiescent-iff P c χ n in
+    let u = undisturbed-iff P c χ n e in
     let s = quiet-each (locals n) (env χ) (stores-down n []) in
     let d = quiet-inside-iff (env χ) n in
-    (λ h. (q .0 (a .0 h .0), d .0 (s .0 (a .0 h .1))), λ h. a .1 (q .1 (h .0), s .1 (d .1 (h .1))))
+    (λ h. (u .0 (q .0 (a .0 h .0)), d .0 (s .0 (a .0 h .1))), λ h. a .1 (q .1 (u .1 (h .0)), s .1 (d .1 (h .1))))

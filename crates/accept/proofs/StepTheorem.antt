@@ -30,25 +30,8 @@ use Rattle.theory.proofs.StepKeeps.{transition-keeps, transition-more, transiti
 use Rattle.theory.proofs.StepMeaning.{gains-none, loses-none}
 use Rattle.accept.proofs.EffectSound.{whole}
 use Rattle.accept.proofs.PlaceLaws.{place-whole}
+use Rattle.accept.proofs.Stable.{transition-whole}
 use Rattle.accept.proofs.Accepted.{accepts-iff}
-
--- the goal that is rewritten stands in the configuration
-pub transition-whole : {P : Program} {N r : ℕ} {pl : Place} {k : Kind} {χ : Ctx k} {n n′ : Node k} {N′ : ℕ} → Transition P N r pl k χ n n′ N′ → plug χ n ≡ whole pl
-unfolding plug
-transition-whole (Tr.constraint-atom χ vs σ l r c) = refl
-transition-whole (Tr.program-atom χ p xs b e) = refl
-transition-whole (Tr.composition χ vs σ l r a b) = refl
-transition-whole (Tr.hiding χ vs σ l r n a) = refl
-transition-whole (Tr.choosing χ op cs) = refl
-transition-whole (Tr.promotion χ ws θ l r op vs σ b q) = refl
-transition-whole (Tr.condition χ l r vs σ b q s) = refl
-transition-whole (Tr.committing χ l r vs σ b q s) = refl
-transition-whole (Tr.environment-failure χ vs σ ms u) = refl
-transition-whole (Tr.goal-failure χ vs σ l r op) = refl
-transition-whole (Tr.guard-failure χ op l r b) = refl
-transition-whole (Tr.splitting χ vs σ l r us τ b t ts) = refl
-transition-whole (Tr.distribution χ op l r g gs b) = refl
-transition-whole (Tr.flattening χ l r ns) = refl
 
 -- the top stays an or-box
 abbrev IsOr : {k : Kind} → Node k → Type 0

@@ -5,7 +5,25 @@ use mathlib.Core.List.{List, _++_}
 use Prim.Native.Nat.{ℕ}
 use Rattle.constraint.specs.Constraint.{Store, Asg, Sats, In}
 use Rattle.akl.specs.Syntax.{Op, Stmt}
-use Rattle.akl.specs.Configuration.{Kind, goal, member, guarded, Node, or, and, choice-box, guard, Nodes, cons}
+use Rattle.akl.specs.Configuration.{Kind, goal, member, guarded, Node, or, and, choice-box, guard, Nodes, cons, Ctx, top, in-or, in-and, in-choice, in-guard}
+use Rattle.akl.specs.Places.{Place, at}
+
+-- The goal of the second context is that of the first, or stands inside it (both in one configuration): the second context is
+-- the first, or goes on from it inwards.
+pub data AtOrIn {k : Kind} (χ : Ctx k) : (j : Kind) → Ctx j → Type 0 where
+  same-goal : AtOrIn χ k χ
+  through-or : (χ′ : Ctx goal) (l r : Nodes goal) → AtOrIn χ goal χ′ → AtOrIn χ goal (in-or χ′ l r)
+  through-and : (χ′ : Ctx goal) (vs : List ℕ) (σ : Store) (l r : Nodes member) → AtOrIn χ goal χ′ → AtOrIn χ member (in-and χ′ vs σ l r)
+  through-choice : (χ′ : Ctx member) (op : Op) (l r : Nodes guarded) → AtOrIn χ member χ′ → AtOrIn χ guarded (in-choice χ′ op l r)
+  through-guard : (χ′ : Ctx guarded) (b : Stmt) → AtOrIn χ guarded χ′ → AtOrIn χ goal (in-guard χ′ b)
+
+-- The goal of context χ is or contains the box (or guarded goal) that holds what stands at the place.
+abbrev pub HoldsBox : {k : Kind} → Ctx k → Place → Type 0
+HoldsBox χ (at top n) = AtOrIn χ goal top
+HoldsBox χ (at (in-or χ′ l r) n) = AtOrIn χ goal χ′
+HoldsBox χ (at (in-and χ′ vs σ l r) n) = AtOrIn χ goal χ′
+HoldsBox χ (at (in-choice χ′ op l r) n) = AtOrIn χ member χ′
+HoldsBox χ (at (in-guard χ′ b) n) = AtOrIn χ guarded χ′
 
 -- m is one of the nodes side by side.
 pub data OneOf {k : Kind} (m : Node k) : Nodes k → Type 0 where
