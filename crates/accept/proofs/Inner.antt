@@ -33,7 +33,9 @@ mutual
 
   local-box : {k : Kind} (n : Node k) (x : ℕ) → In x (locals n) → LocalIn n x
   local-box (or ns) x i = let w = local-among ns x i in (w .2 .0, w .2 .1, in-or-box ns (w .0) (w .2 .0) (w .2 .1) (w .1) (w .2 .2), w .2 .3)
-  local-box (and vs σ ms) x i = elim (In-append x vs (locals-all ms) .0 i) [ inl h ↦ (vs, σ, it vs σ ms, h) | inr h ↦ let w = local-among ms x h in (w .2 .0, _, in-member vs σ ms (w .0) (w .2 .0) (w .2 .1) (w .1) (w .2 .2), w .2 .3) ]
+  local-box (and vs σ ms) x i =
+      elim (In-append x vs (locals-all ms) .0 i)
+      [ inl h ↦ (vs, σ, it vs σ ms, h) | inr h ↦ let w = local-among ms x h in (w .2 .0, _, in-member vs σ ms (w .0) (w .2 .0) (w .2 .1) (w .1) (w .2 .2), w .2 .3) ]
   local-box (stmt s) x i = absurd i
   local-box (choice-box op gs) x i = let w = local-among gs x i in (w .2 .0, w .2 .1, in-choice-box op gs (w .0) (w .2 .0) (w .2 .1) (w .1) (w .2 .2), w .2 .3)
   local-box (guard g b) x i = let w = local-box g x i in (w .0, w .1, in-its-guard g b (w .0) (w .1) (w .2), w .3)

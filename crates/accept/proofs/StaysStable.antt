@@ -19,7 +19,8 @@ Without n θ = (x : ℕ) → LocalIn n x → In x (varsAll θ) → ⊥
 
 -- τ is what is added: it is compatible with the environment and does not mention the goal's locals. (The environment does
 -- not in a well-formed configuration.) Then the stores down to each and-box of the goal still have a solution with both.
-pub stable-stays : (P : Program) (c : Config) {k : Kind} (χ : Ctx k) (n : Node k) (τ : Store) → Stable P c (at χ n) → Without n (env χ) → Without n τ → Satisfiable (env χ ++ τ) → (ws : List ℕ) (θ : Store) → BoxIn k n ws θ → Satisfiable ((env χ ++ τ) ++ θ)
+pub stable-stays : (P : Program) (c : Config) {k : Kind} (χ : Ctx k) (n : Node k) (τ : Store) → Stable P c (at χ n) →
+    Without n (env χ) → Without n τ → Satisfiable (env χ ++ τ) → (ws : List ℕ) (θ : Store) → BoxIn k n ws θ → Satisfiable ((env χ ++ τ) ++ θ)
 stable-stays P c χ n τ h de dt w ws θ b =
     let ρ = w .0 in
     let s = sats-append ρ (env χ) τ .0 (w .1) in

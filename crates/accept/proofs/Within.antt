@@ -44,9 +44,12 @@ module _ {k : Kind} (χ : Ctx k) where
     listed-inward (guard g b) χ′ zero pl e w = subst Inward (Option·some-injective (at χ′ (guard g b)) pl e) w
     listed-inward (guard g b) χ′ (suc p) pl e w = listed-inward g (in-guard χ′ b) p pl e (through-guard χ′ b w)
 
-    all-inward : {j : Kind} (ns : Nodes j) (around : Nodes j → Nodes j → Ctx j) (l : Nodes j) (p : ℕ) (pl : Place) → nth (places-all ns around l) p ≡ some pl → ((a r : Nodes j) → AtOrIn χ j (around a r)) → Inward pl
+    all-inward : {j : Kind} (ns : Nodes j) (around : Nodes j → Nodes j → Ctx j) (l : Nodes j) (p : ℕ) (pl : Place) →
+        nth (places-all ns around l) p ≡ some pl → ((a r : Nodes j) → AtOrIn χ j (around a r)) → Inward pl
     all-inward nil around l p pl e w = absurd (no-place pl e)
-    all-inward (cons n ns) around l p pl e w = elim (nth-split (places n (around l ns)) (places-all ns around (l +n one n)) p pl e) [ inl h ↦ listed-inward n (around l ns) p pl h (w l ns) | inr h ↦ all-inward ns around (l +n one n) (h .0) pl (h .2) w ]
+    all-inward (cons n ns) around l p pl e w =
+        elim (nth-split (places n (around l ns)) (places-all ns around (l +n one n)) p pl e)
+        [ inl h ↦ listed-inward n (around l ns) p pl h (w l ns) | inr h ↦ all-inward ns around (l +n one n) (h .0) pl (h .2) w ]
 
 -- ---------------------------------------------------------------------------------------------
 -- Numbers.
@@ -73,7 +76,8 @@ module _ (c : Config) where
   same-count χ n m e f = ap count-at (Option·some-injective (at χ m) (at χ n) (sym (place-of χ m c f) ∙ place-of χ n c e))
 
   -- the places of the inner goal are among those of the outer one
-  within : {k j : Kind} (χ : Ctx k) (n : Node k) {χ′ : Ctx j} (m : Node j) → plug χ n ≡ c .root → plug χ′ m ≡ c .root → AtOrIn χ j χ′ → (place-number χ ≤ place-number χ′) × (place-number χ′ + count m ≤ place-number χ + count n)
+  within : {k j : Kind} (χ : Ctx k) (n : Node k) {χ′ : Ctx j} (m : Node j) → plug χ n ≡ c .root → plug χ′ m ≡ c .root → AtOrIn χ j χ′ →
+      (place-number χ ≤ place-number χ′) × (place-number χ′ + count m ≤ place-number χ + count n)
   unfolding plug place-number count
   within χ n m e f same-goal = (omega arith, omega (arith, same-count χ n m e f))
   within χ n m e f (through-or χ′ l r w) = let h = within χ n (or (l +n cons m r)) e f w in (omega (arith, h .0), omega (arith, h .1, among-counts l r m))

@@ -136,7 +136,10 @@ unfoldable mutual
   -- what stands between the round signs: a hidden list or none, a statement, and then an operator or not
   pub a-bracket : ℕ → List Token → Read Bracket
   a-bracket zero ts = none
-  a-bracket (suc n) ts = hidden n ts >>= λ xs. statement n (xs .1) >>= λ s. elim (an-operator (s .1)) [ none ↦ some (unclaused (xs .0) (s .0), s .1) | some o ↦ statement n (o .1) >>= λ b. others n (b .1) >>= λ cs. some (choosing (written (xs .0) (s .0) (o .0) (b .0)) (cs .0), cs .1) ]
+  a-bracket (suc n) ts =
+      hidden n ts >>= λ xs. statement n (xs .1) >>= λ s.
+      elim (an-operator (s .1)) [ none ↦ some (unclaused (xs .0) (s .0), s .1) | some o ↦
+      statement n (o .1) >>= λ b. others n (b .1) >>= λ cs. some (choosing (written (xs .0) (s .0) (o .0) (b .0)) (cs .0), cs .1) ]
 
   -- "clauses parted by `;`"
   pub others : ℕ → List Token → Read Others
