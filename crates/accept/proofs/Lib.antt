@@ -6,6 +6,5 @@ pub mod Inner
 pub mod Stable
 pub mod Accepted
 pub mod StepTheorem
-pub mod StoresDown
 pub mod StaysStable
 pub mod Losses

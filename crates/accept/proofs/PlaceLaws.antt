@@ -41,7 +41,7 @@ nth-right (y ∷ a) b p = ap (nth (y ∷ (a ++ b))) shift ∙ nth-right a b p
     shift : suc (size a) + p ≡ suc (size a + p)
     shift = omega arith
 
-pub append-one : {k : Kind} (l : Nodes k) (n : Node k) (r : Nodes k) → (l +n one n) +n r ≡ l +n cons n r
+append-one : {k : Kind} (l : Nodes k) (n : Node k) (r : Nodes k) → (l +n one n) +n r ≡ l +n cons n r
 unfolding _+n_
 append-one nil n r = refl
 append-one (cons m l) n r = ap (cons m) (append-one l n r)
@@ -138,7 +138,7 @@ place-numbered c p χ n e = right-at (c .root) top p (at χ n) e .1 ∙ zero-add
 -- Every node in its context has a place.
 
 -- M stands in L from position b on
-abbrev pub Block : List Place → ℕ → List Place → Type 0
+abbrev Block : List Place → ℕ → List Place → Type 0
 Block L b M = (j : ℕ) (x : Place) → nth M j ≡ some x → nth L (b + j) ≡ some x
 
 block-then : (L M K : List Place) (a b : ℕ) → Block L a M → Block M b K → Block L (a + b) K

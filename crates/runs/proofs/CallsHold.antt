@@ -170,7 +170,7 @@ module _ (xs : List Name) (g : Node goal) (n m : ℕ) where
   abbrev pub found : Option Answer → Result (List ℕ)
   found o = elim o as (λ z. Result (List ℕ)) [ none ↦ refused 16 | some a ↦ fitted a ]
 
-  pub answer-found : (o : Option Answer) → numbered xs g n ≡ o → answer-outcome (answer xs g n m) ≡ answer-outcome (found o)
+  pub answer-found : (o : Option Answer) → numbered g n ≡ o → answer-outcome (answer xs g n m) ≡ answer-outcome (found o)
   unfolding answer
   answer-found o e = ap (λ z. answer-outcome (found z)) e
 
@@ -204,7 +204,7 @@ module _ (xs : List Name) (g : Node goal) (n m : ℕ) where
       go true q = let z : _≡_ {A = ℕ} 17 16 = cc q in omega arith
       go false q = refusal-not (answer-text xs a) 16 (sym q)
 
-numbered-in : (xs : List Name) (g : Node goal) (n : ℕ) (a : Answer) → numbered xs g n ≡ some a → AnswerIn a (answers g)
+numbered-in : (xs : List Name) (g : Node goal) (n : ℕ) (a : Answer) → numbered g n ≡ some a → AnswerIn a (answers g)
 numbered-in xs g zero a q = absurd (nope q)
   where
     nope : _≡_ {A = Option Answer} none (some a) → ⊥
@@ -231,7 +231,7 @@ module _ (P : Program) (query : Query) (d : Config) (fair-of : (a : Answer) → 
   answer-holds : (n m : ℕ) → AnswerHolds P query d n m (answer-outcome (answer ys (d .root) n m))
   answer-holds n m = record {
     missing = missing-iff ys (d .root) n m;
-    numbered = λ i a e p. subst (TextGiven ys a m) (sym (answer-found ys (d .root) n m (some a) (ap (numbered ys (d .root)) e ∙ p))) (text-given ys (d .root) n m a);
+    numbered = λ i a e p. subst (TextGiven ys a m) (sym (answer-found ys (d .root) n m (some a) (ap (numbered (d .root)) e ∙ p))) (text-given ys (d .root) n m a);
     reads = λ t e. let w = which t e in (shown-terms (size ys) (w .0), subst (λ z. ReadsAs ys z (shown-terms (size ys) (w .0))) (sym (w .2)) (text-reads ys (w .0) (fair-of (w .0) (w .1))));
     satisfies = λ t e ts r ρ h.
         let w = which t e in
@@ -242,7 +242,7 @@ module _ (P : Program) (query : Query) (d : Config) (fair-of : (a : Answer) → 
     where
       which : (t : List ℕ) → answer-outcome (answer ys (d .root) n m) ≡ shown t → (a : Answer) × AnswerIn a (answers (d .root)) × (t ≡ answer-text ys a)
       which t e =
-          let w = shown-is ys (d .root) n m (numbered ys (d .root) n) t (sym (answer-found ys (d .root) n m (numbered ys (d .root) n) refl) ∙ e) in
+          let w = shown-is ys (d .root) n m (numbered (d .root) n) t (sym (answer-found ys (d .root) n m (numbered (d .root) n) refl) ∙ e) in
           (w .0, numbered-in ys (d .root) n (w .0) (w .1), w .2)
 
   call-told : (limit : ℕ) (k : Call) → Told limit P query d k (outcome limit P ys d k)

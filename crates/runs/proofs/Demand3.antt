@@ -105,38 +105,7 @@ run-holds limit rules text P query c rp rq rs ks = record {
           fits = text-solutions (query .variables) (w .1) g ρ .1 (w .3);
         }
 
--- ---------------------------------------------------------------------------------------------
--- What the call for an answer hands back is the text of one of them, and fits the slice.
-
-nth-answer : (l : List Answer) (n : ℕ) (a : Answer) → nth l n ≡ some a → AnswerIn a l
-unfolding nth
-nth-answer [] n a e = absurd (nope e)
-  where
-    nope : _≡_ {A = Option Answer} none (some a) → ⊥
-    nope q = let z : _≡_ {A = ℕ} 0 1 = cc in omega arith
-nth-answer (b ∷ l) zero a e = inl (sym (cc e))
-nth-answer (b ∷ l) (suc n) a e = inr (nth-answer l n a e)
-
-pub answer-of : (xs : List Name) (g : Node goal) (n m : ℕ) (t : List ℕ) → answer xs g n m ≡ ok t → (a : Answer) × AnswerIn a (answers g) × (t ≡ answer-text xs a) × (size t ≤ m)
-unfolding answer
-answer-of xs g n m t e = go (numbered g n) refl e
-  where
-    refused-not : {k : ℕ} → _≡_ {A = Result (List ℕ)} (refused k) (ok t) → ⊥
-    refused-not q = let z : _≡_ {A = ℕ} 0 1 = cc in omega arith
-
-    is-in : (k : ℕ) (a : Answer) → numbered g k ≡ some a → AnswerIn a (answers g)
-    is-in zero a q = absurd (nope q)
-      where
-        nope : _≡_ {A = Option Answer} none (some a) → ⊥
-        nope r = let z : _≡_ {A = ℕ} 0 1 = cc in omega arith
-    is-in (suc k) a q = nth-answer (answers g) k a q
-
-    in-slice : (a : Answer) (b : Bool) → ltb m (size (answer-text xs a)) ≡ b → if b (refused 17) (ok (answer-text xs a)) ≡ ok t → (t ≡ answer-text xs a) × (size t ≤ m)
-    in-slice a true p q = absurd (refused-not q)
-    in-slice a false p q =
-        let r : answer-text xs a ≡ t = cc q in
-        (sym r, subst (λ z. size z ≤ m) r (nltb→le m (size (answer-text xs a)) (not-T (ltb m (size (answer-text xs a))) .1 (λ h. subst T p h))))
-
-    go : (o : Option Answer) → numbered g n ≡ o → elim o as (λ z. Result (List ℕ)) [ none ↦ refused 16 | some a ↦ if (ltb m (size (answer-text xs a))) (refused 17) (ok (answer-text xs a)) ] ≡ ok t → (a : Answer) × AnswerIn a (answers g) × (t ≡ answer-text xs a) × (size t ≤ m)
-    go none p q = absurd (refused-not q)
-    go (some a) p q = let w = in-slice a (ltb m (size (answer-text xs a))) refl q in (a, is-in n a p, w .0, w .1)
+-- Demand 3, at document 01's limit.
+pub demand-3 : (rules text : List ℕ) (P : Program) (query : Query) (c : Config) → read-program rules ≡ ok P → read-query P text ≡ ok query →
+    start most-parts query ≡ ok c → (ks : List Call) → RunHolds most-parts P query c ks
+demand-3 rules text P query c rp rq rs ks = run-holds most-parts rules text P query c rp rq rs ks

@@ -26,7 +26,8 @@ unfolding answer-line
 answer-printed xs a = go (ltb answer-bytes (size (answer-text xs a)))
   where
     go : (b : Bool) →
-        outcome-lines (answer-outcome (if b (refused 17) (ok (answer-text xs a)))) ≡ (bytes "answer " ++ if b (bytes "long") (answer-text xs a)) ++ bytes "\n"
+        outcome-lines (answer-outcome (if b (refused 17) (ok (answer-text xs a)))) ≡
+            (bytes "answer " ++ elim (if b (refused 17) (ok (answer-text xs a))) as (λ z. List ℕ) [ refused n ↦ bytes "long" | ok t ↦ t ]) ++ bytes "\n"
     go true = refl
     go false = refl
 

@@ -9,13 +9,12 @@ use native.Mathlib.Omega.{arith}
 use lib.Dec.{T, eqb, leb, ltb, ltb→lt, leb→le}
 use Rattle.constraint.specs.Constraint.{Con, ctrue, cfail, ceq, capp, mapCon}
 use Rattle.constraint.proofs.Lists.{and-T, or-T, not-T}
-use Rattle.akl.specs.Base.{Name, size, same, among, any, all, repeats, if, _>>=_}
+use Rattle.akl.specs.Base.{is-some, Name, size, same, among, any, all, repeats, if, _>>=_}
 use Rattle.akl.specs.Limits.{most-arguments, most-depth}
 use Rattle.akl.specs.Syntax.{Var, number, level, Op, wait, cond, commit, Stmt, atom, call, comp, hide, choice, Clauses, no-more, clause, Def, Program, defined}
 use Rattle.akl.specs.Grammar.{Statement, single, joined, program, written}
 use Rattle.akl.specs.Parse.{unclaused}
 use Rattle.akl.specs.Reader.{same-operator, mixed, fault, Around, unbound, hiding-also, deeper, unknown, constraint-faults, statement-faults, simple-faults, bracket-faults, clause-faults, others-faults}
-use Rattle.akl.specs.Stability.{is-some}
 use Rattle.akl.specs.WellFormed.{variable-fits, few, constraint-fits, statement-fits, clauses-fit, some-clause, spelled-name, spelled-digits, is-comp, bracketed, depth, clauses-depth}
 use Rattle.texts.specs.Draft.{level-name, most-names, spell, level-names, simply, draft, draft-choice, draft-others, widest, clauses-widest}
 use Rattle.texts.proofs.DraftNames.{level-in, levels-differ, levels-within, levels-size}

@@ -8,12 +8,11 @@ use native.Mathlib.Omega.{arith}
 use lib.Dec.{T, leb, ltb, ltb→lt, leb→le}
 use Rattle.constraint.specs.Constraint.{Con, ctrue, cfail, ceq, capp, mapCon}
 use Rattle.constraint.proofs.Lists.{and-T}
-use Rattle.akl.specs.Base.{Name, size, all, first, last}
+use Rattle.akl.specs.Base.{is-some, Name, size, all, first, last}
 use Rattle.akl.specs.Syntax.{Var, number, level, Op, Stmt, atom, call, comp, hide, choice, Clauses, no-more, clause, Program, defined}
 use Rattle.akl.specs.Grammar.{Statement, single, joined}
 use Rattle.akl.specs.Parse.{unclaused}
 use Rattle.akl.specs.Reader.{variable-of, statement-of, simple-of, bracket-of, others-of}
-use Rattle.akl.specs.Stability.{is-some}
 use Rattle.akl.specs.WellFormed.{variable-fits, few, constraint-fits, statement-fits, clauses-fit, some-clause, spelled-name, spelled-digits}
 use Rattle.texts.specs.Draft.{level-name, number-name, most-names, spell, level-names, number-names, simply, draft, draft-choice, draft-others, widest, clauses-widest}
 use Rattle.texts.proofs.DraftNames.{level-found, number-not-found, number-found, levels-within, levels-size}

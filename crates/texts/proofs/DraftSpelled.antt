@@ -7,13 +7,12 @@ use Prim.Native.Nat.{ℕ, _+_}
 use lib.Dec.{T, eqb, leb}
 use Rattle.constraint.specs.Constraint.{Con, ctrue, cfail, ceq, capp, mapCon}
 use Rattle.constraint.proofs.Lists.{and-T}
-use Rattle.akl.specs.Base.{Name, size, same, all, if}
+use Rattle.akl.specs.Base.{is-some, Name, size, same, all, if}
 use Rattle.akl.specs.Limits.{most-arguments, most-definitions}
 use Rattle.akl.specs.Syntax.{Var, number, level, Op, Stmt, atom, call, comp, hide, choice, Clauses, no-more, clause, Program, defined}
 use Rattle.akl.specs.Grammar.{Statement, single, joined}
 use Rattle.akl.specs.Parse.{unclaused}
 use Rattle.akl.specs.Reader.{twice}
-use Rattle.akl.specs.Stability.{is-some}
 use Rattle.akl.specs.WellFormed.{variable-fits, few, constraint-fits, statement-fits, clauses-fit, some-clause, spelled-name, spelled-digits, spelled-predicate, statement-passes, definition-passes, program-passes}
 use Rattle.texts.specs.Spelled.{Variables, SpelledCon, SpelledStatement, SpelledSimple, SpelledBracket, SpelledOthers}
 use Rattle.texts.specs.Draft.{spell, level-names, simply, draft, draft-choice, draft-others}

@@ -7,9 +7,8 @@ use Prim.Native.Nat.{ℕ, _+_}
 use lib.Dec.{T, leb}
 use Rattle.constraint.specs.Constraint.{Con, ctrue, cfail, ceq, capp, In}
 use Rattle.constraint.proofs.Lists.{and-T, In-append}
-use Rattle.akl.specs.Base.{size, all}
+use Rattle.akl.specs.Base.{is-some, size, all}
 use Rattle.akl.specs.Syntax.{Var, number, level, Stmt, atom, call, comp, hide, choice, Clauses, no-more, clause, Program, defined}
-use Rattle.akl.specs.Stability.{is-some}
 use Rattle.akl.specs.WellFormed.{variable-fits, few, constraint-fits, statement-fits, clauses-fit, some-clause, spelled-name, spelled-digits, variable-numbers, list-numbers, constraint-numbers, numbers, clauses-numbers}
 
 module _ (P : Program) (f g : ℕ → Bool) where

@@ -12,11 +12,10 @@ use lib.Dec.{T, leb, ltb→lt}
 use Rattle.constraint.specs.Tree.{Tree, node, fcons}
 use Rattle.constraint.specs.Constraint.{Con, ctrue, cfail, ceq, capp, Asg, trees, Sat}
 use Rattle.constraint.proofs.Lists.{and-T}
-use Rattle.akl.specs.Base.{Name, size, all}
+use Rattle.akl.specs.Base.{is-some, Name, size, all}
 use Rattle.akl.specs.Syntax.{Var, number, level, Stmt, atom, call, comp, hide, choice, Clauses, clause, Program, defined}
 use Rattle.akl.specs.Configuration.{Kind, Node, or, and, stmt, choice-box, guard, Nodes, nil, cons, Config}
 use Rattle.akl.specs.Reader.{Query}
-use Rattle.akl.specs.Stability.{is-some}
 use Rattle.akl.specs.WellFormed.{variable-fits, few, constraint-fits, statement-fits, clauses-fit, some-clause, spelled-name, spelled-digits, statement-passes, program-passes, stored-fits, statements-pass, statements-pass-all, depth}
 use Rattle.theory.specs.Meaning.{leaf, look, Model, Holds, Some, BodyHolds, Unfolded, Atoms, nothing, HoldsWith, All, Any, Solution, QuerySolution}
 use Rattle.theory.specs.Formed.{QueryFits}

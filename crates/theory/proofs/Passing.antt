@@ -9,7 +9,7 @@ use native.Mathlib.Omega.{arith}
 use native.Mathlib.Nat.{not-suc-le-zero}
 use lib.Dec.{T, leb, ltb, eqb, ltb→lt, lt→ltb, leb→le, le→leb, eqb→eq}
 use Rattle.constraint.specs.Constraint.{Con, ctrue, cfail, ceq, capp, mapCon, In}
-use Rattle.constraint.proofs.Lists.{and-T, In-append}
+use Rattle.constraint.proofs.Lists.{none-some, and-T, In-append}
 use Rattle.akl.specs.Base.{is-some, Name, size, same, all, range, if}
 use Rattle.akl.specs.Limits.{most-depth, most-definitions}
 use Rattle.akl.specs.Syntax.{Var, number, level, Op, Stmt, atom, call, comp, hide, choice, Clauses, no-more, clause, Def, Program, defined, open-level, open-var, opened, opened-clauses}
