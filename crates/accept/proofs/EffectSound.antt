@@ -19,7 +19,7 @@ use Rattle.akl.specs.Places.{Place, at}
 use Rattle.akl.specs.Table.{Row, rule-row, kind-at, statement-kind, or-kind}
 use Rattle.akl.specs.Rules.{Change, provided, non-empty, is-wait, effect}
 use Rattle.akl.specs.Stability.{fits-row}
-use Rattle.theory.specs.Transition.{Some, Transition}
+use Rattle.theory.specs.Transition.{NotEmpty, Transition}
 use Rattle.theory.specs.Transition as Tr
 use Rattle.accept.proofs.Effects.{rules-of, rule-of, leads}
 
@@ -98,7 +98,7 @@ module _ (P : Program) (N : ℕ) where
         let k = and-T (quiet? us (env χ) τ) (non-empty r) .0 (h .0) in
         found (Tr.condition χ l r us τ b (quiet-iff us (env χ) τ .0 (k .0)) (some-of r (k .1))) d (h .1)
       where
-        some-of : (ns : Nodes guarded) → T (non-empty ns) → Some ns
+        some-of : (ns : Nodes guarded) → T (non-empty ns) → NotEmpty ns
         some-of (cons n ns) t = tt
 
     eight : (op : Op) (l r : Nodes guarded) (g : Node goal) (b : Stmt) (d : Config) → effect P N 8 (at (in-choice χ op l r) (guard g b)) ≡ some d → Found 8 (at (in-choice χ op l r) (guard g b)) d
@@ -112,7 +112,7 @@ module _ (P : Program) (N : ℕ) where
         let k = and-T (quiet? us (env χ) τ) (non-empty l || non-empty r) .0 (h .0) in
         found (Tr.committing χ l r us τ b (quiet-iff us (env χ) τ .0 (k .0)) (elim (or-T (non-empty l) (non-empty r) .0 (k .1)) [ inl t ↦ inl (some-of l t) | inr t ↦ inr (some-of r t) ])) d (h .1)
       where
-        some-of : (ns : Nodes guarded) → T (non-empty ns) → Some ns
+        some-of : (ns : Nodes guarded) → T (non-empty ns) → NotEmpty ns
         some-of (cons n ns) t = tt
 
     eleven : (op : Op) (l r : Nodes guarded) (g : Node goal) (b : Stmt) (d : Config) → effect P N 11 (at (in-choice χ op l r) (guard g b)) ≡ some d → Found 11 (at (in-choice χ op l r) (guard g b)) d

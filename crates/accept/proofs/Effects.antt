@@ -18,7 +18,7 @@ use Rattle.akl.specs.Configuration.{Kind, Node, Nodes, nil, cons, Ctx, in-and, 
 use Rattle.akl.specs.Places.{Place}
 use Rattle.akl.specs.Table.{Takes, constraint-atom, program-atom, composition, hiding, choice-statement, choice-box-place, guarded-goal, and-box, inner-or-box, other-or-box, Row, table, rule-row, same-kind}
 use Rattle.akl.specs.Rules.{Change, provided, non-empty, is-wait, effect}
-use Rattle.theory.specs.Transition.{Some, Transition}
+use Rattle.theory.specs.Transition.{NotEmpty, Transition}
 use Rattle.theory.specs.Transition as Tr
 use Rattle.theory.proofs.Reflect.{all-each}
 use Rattle.theory.proofs.Locals.{In-range}
@@ -84,7 +84,7 @@ provided-yes true c t = refl
 abbrev pub leads : {k : Kind} → Ctx k → Node k → ℕ → Change
 leads χ n′ N′ = some (record { root = plug χ n′; next = N′ })
 
-some-T : {k : Kind} (ns : Nodes k) → T (non-empty ns) ↔ Some ns
+some-T : {k : Kind} (ns : Nodes k) → T (non-empty ns) ↔ NotEmpty ns
 some-T nil = (λ h. h, λ h. h)
 some-T (cons n ns) = (λ h. tt, λ h. tt)
 

@@ -6,7 +6,7 @@ use Prim.Native.Nat.{ℕ, zero, suc}
 use lib.Dec.{eqb, ltb}
 use Rattle.constraint.specs.Tree.{Label}
 use Rattle.constraint.specs.Constraint.{Store}
-use Rattle.constraint.specs.Solve.{Bnd, free, fun, find, St, start, solve, satisfiable?, elem}
+use Rattle.constraint.specs.Solve.{Bnd, free, fun, find, St, untold, solve, satisfiable?, elem}
 use Rattle.akl.specs.Base.{Name, bytes, size, nth, range, decimal, if, Result, refused, ok}
 use Rattle.akl.specs.Configuration.{Kind, goal, member, Node, or, and, stmt, choice-box, guard, Nodes, nil, cons}
 
@@ -54,9 +54,9 @@ term-of f r free = unbound r
 term-of f r (fun g ys) = built g (terms f ys)
 
 -- The term of a variable, down to depth n: the bindings hold no cycle, so their number is enough.
-unfoldable pub value : ℕ → St → ℕ → Term
-value zero s x = unbound (s .rep x)
-value (suc n) s x = term-of (value n s) (s .rep x) (find (s .rep x) (s .bs))
+unfoldable pub variable-term : ℕ → St → ℕ → Term
+variable-term zero s x = unbound (s .rep x)
+variable-term (suc n) s x = term-of (variable-term n s) (s .rep x) (find (s .rep x) (s .bs))
 
 -- The unbound variables, "`_0`, `_1` by first appearance".
 unfoldable mutual
@@ -100,10 +100,10 @@ line-text (x ∷ xs) ts = bindings-text (x ∷ xs) ts (unknowns-all ts [])
 
 abbrev pub solved-text : List Name → Option St → List ℕ
 solved-text xs none = []
-solved-text xs (some s) = line-text xs (terms (value (suc (size (s .bs))) s) (range 0 (size xs)))
+solved-text xs (some s) = line-text xs (terms (variable-term (suc (size (s .bs))) s) (range 0 (size xs)))
 
 unfoldable pub answer-text : List Name → Answer → List ℕ
-answer-text xs a = solved-text xs (solve start (a .1))
+answer-text xs a = solved-text xs (solve untold (a .1))
 
 -- The outcome of asking for the answer of a number, for a slice of the length m: 16 "no answer of that number, counted
 -- from 1", 17 "answer text longer than the lent slice".

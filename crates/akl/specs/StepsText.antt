@@ -14,16 +14,16 @@ pub record Step : Type 0 where
   pub place : ℕ
   pub argument : ℕ
 
-unfoldable pub value : ℕ → List ℕ → ℕ
-value n [] = n
-value n (d ∷ ds) = value (n * 10 + (d - 48)) ds
+unfoldable pub digits-value : ℕ → List ℕ → ℕ
+digits-value n [] = n
+digits-value n (d ∷ ds) = digits-value (n * 10 + (d - 48)) ds
 
 -- One digit or more, and then the byte that must follow.
 unfoldable pub decimal-number : ℕ → List ℕ → Option (ℕ × List ℕ)
 decimal-number follows text =
     let s = span digit-class text in
-    when (leb 1 (size (s .0)) && ltb (value 0 (s .0)) step-number) s >>= λ t.
-    elim (t .1) [ [] ↦ none | x ∷ l ↦ when (eqb x follows) (value 0 (t .0), l) ]
+    when (leb 1 (size (s .0)) && ltb (digits-value 0 (s .0)) step-number) s >>= λ t.
+    elim (t .1) [ [] ↦ none | x ∷ l ↦ when (eqb x follows) (digits-value 0 (t .0), l) ]
 
 abbrev space : ℕ
 space = 32

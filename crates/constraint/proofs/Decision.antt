@@ -10,7 +10,7 @@ use native.Mathlib.Omega.{arith}
 use lib.Dec.{T, eqb}
 use Rattle.constraint.specs.Tree.{Tree, node, fnil}
 use Rattle.constraint.specs.Constraint.{Con, Store, Asg, Sat, Sats, Satisfiable, In, Off, Quiet, vars, varsAll, Fresh}
-use Rattle.constraint.specs.Solve.{Bnd, free, fun, find, St, start, costs, held, run, solve, elem, nub, distinct, keep, all?, acyclic?, sat-of, satisfiable?, free?, parameter?, untouched?, then-quiet?, after-quiet?, quiet-fresh?}
+use Rattle.constraint.specs.Solve.{Bnd, free, fun, find, St, untold, costs, held, tell-all, solve, elem, nub, distinct, keep, all?, acyclic?, sat-of, satisfiable?, free?, parameter?, untouched?, then-quiet?, after-quiet?, quiet-fresh?}
 use Rattle.constraint.proofs.Form.{Form, form, at, Solves, Ranked, Stuck, Of}
 use Rattle.constraint.proofs.Lists.{both, and-T, not-T, eqb-T, elem-In, keep-In, all-In, distinct-inj, inj-distinct, nub-In, nub-distinct, keep-distinct, In-append}
 use Rattle.constraint.proofs.Trees.{dec-in, sats-off}
@@ -24,10 +24,10 @@ solve-ok : (s : St) (p : Store) (ρ : Asg) → (Solves ρ (form s) × Sats ρ p)
 unfolding solve
 solve-ok s p ρ = run-ok (suc (costs p + held (s .bs))) s p (omega arith) ρ
 
--- telling a store to a state s gives exactly the solutions of both; from the start, those of the store
-pub start-ok : (p : Store) (ρ : Asg) → Sats ρ p ↔ Means ρ (solve start p)
-unfolding start
-start-ok p ρ = (λ h. solve-ok start p ρ .0 (λ x. refl, h), λ h. solve-ok start p ρ .1 h .1)
+-- telling a store to a state s gives exactly the solutions of both; from the untold, those of the store
+pub start-ok : (p : Store) (ρ : Asg) → Sats ρ p ↔ Means ρ (solve untold p)
+unfolding untold
+start-ok p ρ = (λ h. solve-ok untold p ρ .0 (λ x. refl, h), λ h. solve-ok untold p ρ .1 h .1)
 
 -- some tree for every variable
 leaves : Asg
@@ -36,7 +36,7 @@ leaves x = node [] fnil
 -- Satisfiable, decided.
 pub satisfiable-iff : (σ : Store) → T (satisfiable? σ) ↔ Satisfiable σ
 unfolding satisfiable? sat-of Means
-satisfiable-iff σ = go (solve start σ) (start-ok σ)
+satisfiable-iff σ = go (solve untold σ) (start-ok σ)
   where
     go : (o : Option St) → ((ρ : Asg) → Sats ρ σ ↔ Means ρ o) → T (sat-of o) ↔ Satisfiable σ
     go none h = (λ t. absurd t, λ w. h (w .0) .0 (w .1))
@@ -183,7 +183,7 @@ module _ (vs : List ℕ) (env σ : Store) (fr : Fresh vs env) where
 
   pub quiet-fresh-iff : T (quiet-fresh? vs env σ) ↔ Quiet vs env σ
   unfolding quiet-fresh? after-quiet? Means solve xs
-  quiet-fresh-iff = go (solve start env) (start-ok env) (λ x n. run-alone x _ start env (start-alone x) (outside x n .0))
+  quiet-fresh-iff = go (solve untold env) (start-ok env) (λ x n. run-alone x _ untold env (start-alone x) (outside x n .0))
     where
       go : (o : Option St) → ((ρ : Asg) → Sats ρ env ↔ Means ρ o) → ((x : ℕ) → (In x xs → ⊥) → Alone x o) → T (after-quiet? vs xs σ o) ↔ Quiet vs env σ
       go none h al = (λ t. no-solution (λ ρ s. h ρ .0 s), λ q. tt)

@@ -4,7 +4,7 @@ use mathlib.Core.Logic.{_↔_, _⊎_, inl, inr}
 use mathlib.Core.List.{List, [], _∷_, _++_}
 use Prim.Native.Nat.{ℕ, zero, suc, _+_, _≤_, _<_}
 use native.Mathlib.Omega.{arith}
-use Rattle.constraint.specs.Tree.{Label, Tree, Forest, node, fnil, fcons, size, sizes}
+use Rattle.constraint.specs.Tree.{Label, Tree, Forest, node, fnil, fcons, tree-size, forest-size}
 use Rattle.constraint.specs.Constraint.{Con, Asg, trees, In, Store}
 use Rattle.constraint.specs.Solve.{Bnd, free, fun}
 use Rattle.constraint.proofs.Form.{Form, build, at, Solves, Below, Ranked, Stuck}
@@ -12,13 +12,13 @@ use Rattle.constraint.proofs.Trees.{arg-le, trees-agree}
 
 -- a stuck form has no solution: each tree of S has a smaller one of S below it
 pub stuck-none : (F : Form) → Stuck F → (ρ : Asg) → Solves ρ F → ⊥
-unfolding size
-stuck-none F s ρ h = go (suc (size (ρ (s .some-one)))) (s .some-one) (s .holds) (omega arith)
+unfolding tree-size
+stuck-none F s ρ h = go (suc (tree-size (ρ (s .some-one)))) (s .some-one) (s .holds) (omega arith)
   where
-    smaller : (x y : ℕ) (f : Label) (ys : List ℕ) → at F x ≡ fun f ys → In y ys → size (ρ y) < size (ρ x)
+    smaller : (x y : ℕ) (f : Label) (ys : List ℕ) → at F x ≡ fun f ys → In y ys → tree-size (ρ y) < tree-size (ρ x)
     smaller x y f ys e i = rw (h x, e) (omega (arith, arg-le ρ y ys i))
 
-    go : (n : ℕ) (x : ℕ) → s .S x → size (ρ x) < n → ⊥
+    go : (n : ℕ) (x : ℕ) → s .S x → tree-size (ρ x) < n → ⊥
     go zero x m l = omega arith
     go (suc n) x m l =
         let w = s .next x m in

@@ -11,7 +11,7 @@ use Rattle.constraint.specs.Tree.{Label, label-dec, Tree, Forest, node, 
 use Rattle.constraint.specs.Constraint.{Con, ctrue, cfail, ceq, capp, Store, Asg, trees, Sat, Sats}
 use Rattle.constraint.specs.Solve.{Bnd, free, fun}
 use Rattle.constraint.proofs.Form.{Form, form, Solves, build, at}
-use Rattle.constraint.specs.Solve.{Bound, find, remove, St, to, merge, put, pairs, again, clash?, Next, onEq, onApp, step, run, cost, costs, held}
+use Rattle.constraint.specs.Solve.{Bound, find, remove, St, to, merge, put, pairs, again, clash?, Next, onEq, onApp, tell-one, tell-all, cost, costs, held}
 use Rattle.constraint.proofs.Entail.{sats-append}
 use Rattle.constraint.proofs.Trees.{node-label, node-args}
 
@@ -244,8 +244,8 @@ unfoldable pub Means : Asg → Option St → Type 0
 Means ρ none = ⊥
 Means ρ (some s) = Solves ρ (form s)
 
-pub run-ok : (n : ℕ) (s : St) (p : Store) → costs p + held (s .bs) < n → (ρ : Asg) → Sol ρ s p ↔ Means ρ (run n s p)
-unfolding run Means
+pub run-ok : (n : ℕ) (s : St) (p : Store) → costs p + held (s .bs) < n → (ρ : Asg) → Sol ρ s p ↔ Means ρ (tell-all n s p)
+unfolding tell-all Means
 run-ok zero s p l ρ = absurd (omega arith)
 run-ok (suc n) s [] l ρ = (λ h. h .0, λ h. (h, tt))
 run-ok (suc n) s (ctrue ∷ p) l ρ =

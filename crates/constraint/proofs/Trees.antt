@@ -1,11 +1,11 @@
--- Finite trees: labels and children of equal nodes, sizes of children; assignments that agree on a constraint's variables.
+-- Finite trees: labels and children of equal nodes, forest-size of children; assignments that agree on a constraint's variables.
 use mathlib.Core.Path.{_≡_, refl, ap, sym, _∙_, subst}
 use mathlib.Core.Logic.{_↔_, _⊎_, inl, inr}
 use mathlib.Core.List.{List, [], _∷_, _++_}
 use Prim.Native.Nat.{ℕ, zero, suc, _+_, _≤_, _<_}
 use native.Mathlib.Omega.{arith}
 use native.Mathlib.Decide.{ℕ-discrete}
-use Rattle.constraint.specs.Tree.{Label, Tree, Forest, node, fnil, fcons, size, sizes}
+use Rattle.constraint.specs.Tree.{Label, Tree, Forest, node, fnil, fcons, tree-size, forest-size}
 use Rattle.constraint.specs.Constraint.{Con, ctrue, cfail, ceq, capp, Asg, trees, Sat, Sats, In, Off, Quiet, Store, vars, Apart, Fresh}
 
 pub node-label : {f g : Label} {ts us : Forest} → node f ts ≡ node g us → f ≡ g
@@ -15,8 +15,8 @@ pub node-args : {f g : Label} {ts us : Forest} → node f ts ≡ node g us → t
 node-args e = cc e
 
 -- an argument is smaller than the tree
-pub arg-le : (ρ : Asg) (y : ℕ) (ys : List ℕ) → In y ys → size (ρ y) ≤ sizes (trees ρ ys)
-unfolding size
+pub arg-le : (ρ : Asg) (y : ℕ) (ys : List ℕ) → In y ys → tree-size (ρ y) ≤ forest-size (trees ρ ys)
+unfolding tree-size
 arg-le ρ y (z ∷ ys) (inl e) = rw e (omega arith)
 arg-le ρ y (z ∷ ys) (inr h) = omega (arith, arg-le ρ y ys h)
 

@@ -7,7 +7,7 @@ use Prim.Native.Nat.{ℕ, zero, suc}
 use native.Mathlib.Decide.{ℕ-discrete}
 use Rattle.constraint.specs.Tree.{Label, label-dec}
 use Rattle.constraint.specs.Constraint.{Con, ctrue, cfail, ceq, capp, Store, In, vars, varsAll}
-use Rattle.constraint.specs.Solve.{Bnd, free, fun, Bound, find, remove, St, start, swap, merge, put, pairs, again, clash?, onEq, onApp, run}
+use Rattle.constraint.specs.Solve.{Bnd, free, fun, Bound, find, remove, St, untold, swap, merge, put, pairs, again, clash?, onEq, onApp, tell-all}
 use Rattle.constraint.proofs.Lists.{In-append}
 
 module _ (x : ℕ) where
@@ -98,8 +98,8 @@ module _ (x : ℕ) where
   varsAll-append [] q h k i = k i
   varsAll-append (c ∷ p) q h k i = elim (In-append x (vars c) (varsAll (p ++ q)) .0 i) [ inl j ↦ h (In-append x (vars c) (varsAll p) .1 (inl j)) | inr j ↦ varsAll-append p q (λ m. h (In-append x (vars c) (varsAll p) .1 (inr m))) k j ]
 
-  pub run-alone : (n : ℕ) (s : St) (p : Store) → Without s → NotIn (varsAll p) → Alone (run n s p)
-  unfolding run varsAll
+  pub run-alone : (n : ℕ) (s : St) (p : Store) → Without s → NotIn (varsAll p) → Alone (tell-all n s p)
+  unfolding tell-all varsAll
   run-alone zero s p w h = tt
   run-alone (suc n) s [] w h = w
   run-alone (suc n) s (cfail ∷ p) w h = tt
@@ -113,6 +113,6 @@ module _ (x : ℕ) where
       let k = app-none s a f ys b (find-none (s .rep a) (s .bs) (w .bound)) w (λ e. h (inl e)) (λ i. h (inr (In-append x ys (varsAll p) .1 (inl i)))) in
       run-alone n (onApp s a f ys b .0) (onApp s a f ys b .1 ++ p) (k .0) (varsAll-append (onApp s a f ys b .1) p (k .1) (λ i. h (inr (In-append x ys (varsAll p) .1 (inr i)))))
 
-  pub start-alone : Without start
-  unfolding start
+  pub start-alone : Without untold
+  unfolding untold
   start-alone = record { self = refl; only = λ z e. e; bound = tt }

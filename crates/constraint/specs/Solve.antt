@@ -39,8 +39,8 @@ pub record St : Type 0 where
   pub idem : (x : ℕ) → rep (rep x) ≡ rep x
   pub bs : List Bound
 
-unfoldable pub start : St
-start = record { rep = λ x. x; idem = λ x. refl; bs = [] }
+unfoldable pub untold : St
+untold = record { rep = λ x. x; idem = λ x. refl; bs = [] }
 
 -- z, or b if z is a
 abbrev pub swap : ℕ → ℕ → ℕ → ℕ
@@ -93,22 +93,22 @@ onApp s x f ys free = (put s (s .rep x) f ys, [])
 onApp s x f ys (fun g zs) = (s, clash? (label-dec f g) (pairs ys zs))
 
 -- One constraint is told.
-abbrev pub step : St → Con ℕ → Next
-step s ctrue = (s, [])
-step s cfail = (s, [])
-step s (ceq x y) = onEq s x y (ℕ-discrete (s .rep y) (s .rep x))
-step s (capp x f ys) = onApp s x f ys (find (s .rep x) (s .bs))
+abbrev pub tell-one : St → Con ℕ → Next
+tell-one s ctrue = (s, [])
+tell-one s cfail = (s, [])
+tell-one s (ceq x y) = onEq s x y (ℕ-discrete (s .rep y) (s .rep x))
+tell-one s (capp x f ys) = onApp s x f ys (find (s .rep x) (s .bs))
 
 -- All of them, with n for a bound on the number of steps: no state where two labels clash.
-unfoldable pub run : ℕ → St → Store → Option St
-run zero s p = none
-run (suc n) s [] = some s
-run (suc n) s (cfail ∷ p) = none
-run (suc n) s (ctrue ∷ p) = run n s p
-run (suc n) s (ceq x y ∷ p) = let t = step s (ceq x y) in run n (t .0) (t .1 ++ p)
-run (suc n) s (capp x f ys ∷ p) = let t = step s (capp x f ys) in run n (t .0) (t .1 ++ p)
+unfoldable pub tell-all : ℕ → St → Store → Option St
+tell-all zero s p = none
+tell-all (suc n) s [] = some s
+tell-all (suc n) s (cfail ∷ p) = none
+tell-all (suc n) s (ctrue ∷ p) = tell-all n s p
+tell-all (suc n) s (ceq x y ∷ p) = let t = tell-one s (ceq x y) in tell-all n (t .0) (t .1 ++ p)
+tell-all (suc n) s (capp x f ys ∷ p) = let t = tell-one s (capp x f ys) in tell-all n (t .0) (t .1 ++ p)
 
--- A number that falls at each step.
+-- A number that falls at each tell-one.
 abbrev pub cost : Con ℕ → ℕ
 cost ctrue = 1
 cost cfail = 1
@@ -124,7 +124,7 @@ held [] = 0
 held (b ∷ bs) = 2 * length (b .2) + 1 + held bs
 
 unfoldable pub solve : St → Store → Option St
-solve s p = run (suc (costs p + held (s .bs))) s p
+solve s p = tell-all (suc (costs p + held (s .bs))) s p
 
 -- Lists of variables.
 unfoldable pub elem : ℕ → List ℕ → Bool
@@ -178,7 +178,7 @@ sat-of none = false
 sat-of (some s) = acyclic? s
 
 unfoldable pub satisfiable? : Store → Bool
-satisfiable? σ = sat-of (solve start σ)
+satisfiable? σ = sat-of (solve untold σ)
 
 -- Quiet, where no local occurs in the environment: telling σ on top of the environment leaves every class that was
 -- unbound, and has a representative that is no local, unbound and apart from every other such class.
@@ -205,7 +205,7 @@ after-quiet? vs xs σ none = true
 after-quiet? vs xs σ (some E) = elim (acyclic? E) [ true ↦ then-quiet? vs xs E (solve E σ) | false ↦ true ]
 
 unfoldable pub quiet-fresh? : List ℕ → Store → Store → Bool
-quiet-fresh? vs env σ = after-quiet? vs (nub (varsAll env ++ varsAll σ)) σ (solve start env)
+quiet-fresh? vs env σ = after-quiet? vs (nub (varsAll env ++ varsAll σ)) σ (solve untold env)
 
 -- Quiet, of any locals: those of σ are first renamed to numbers that occur nowhere.
 unfoldable pub top : List ℕ → ℕ

@@ -32,9 +32,9 @@ mutual
 
 -- The number of nodes: finite, so a tree is no part of its own child.
 unfoldable mutual
-  pub size : Tree → ℕ
-  size (node f ts) = suc (sizes ts)
+  pub tree-size : Tree → ℕ
+  tree-size (node f ts) = suc (forest-size ts)
 
-  pub sizes : Forest → ℕ
-  sizes fnil = 0
-  sizes (fcons t ts) = size t + sizes ts
+  pub forest-size : Forest → ℕ
+  forest-size fnil = 0
+  forest-size (fcons t ts) = tree-size t + forest-size ts

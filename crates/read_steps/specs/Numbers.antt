@@ -14,7 +14,7 @@ use borrow.Author.Tests.{lt-ltb, le-ltb, le-leb, eq-eqb, ne-eqb, ltb-true, ltb-f
 use Rattle.akl.specs.Base.{size, when, if, _>>=_}
 use Rattle.akl.specs.Limits.{step-number}
 use Rattle.akl.specs.Token.{class-of, digit-class, span}
-use Rattle.akl.specs.StepsText.{value, decimal-number}
+use Rattle.akl.specs.StepsText.{digits-value, decimal-number}
 use Rattle.read_tokens.specs.Kinds.{cursor}
 use Rattle.read_tokens.specs.Runs.{span-more, span-stop, span-none}
 use Rattle.read_steps.specs.declared.Number.{Number}
@@ -47,14 +47,14 @@ pub record Numbered (s : List ℕ) (from follows : ℕ) (r : Number) : Type 0 wh
   pub says : meant s r ≡ decimal-number follows (drop from s)
   pub forward : Forward s from r
 
--- The digits from `from` to i have been read. Their value is `true-value`, and n is that, or both are too large.
+-- The digits from `from` to i have been read. Their digits-value is `true-value`, and n is that, or both are too large.
 pub record Digits (s : List ℕ) (from i n : ℕ) : Type 0 where
   pub true-value : ℕ
   pub behind : from ≤ i
   pub bound : n < 10 * step-number
   pub many : size (span digit-class (drop from s) .0) ≡ (i - from) + size (span digit-class (drop i s) .0)
   pub left : span digit-class (drop from s) .1 ≡ span digit-class (drop i s) .1
-  pub worth : value 0 (span digit-class (drop from s) .0) ≡ value true-value (span digit-class (drop i s) .0)
+  pub worth : digits-value 0 (span digit-class (drop from s) .0) ≡ digits-value true-value (span digit-class (drop i s) .0)
   pub equal : (true-value ≡ n) ⊎ ((step-number ≤ n) × (step-number ≤ true-value))
 
 pub digits-start : (s : List ℕ) (from : ℕ) → Digits s from from 0
@@ -80,7 +80,7 @@ capped-step n v x m h g o q = go (ltb n step-number) refl o
         (omega arith, inr (omega arith, omega arith))
 
 pub digits-more : (s : List ℕ) (from i n : ℕ) → Digits s from i n → i < length s → true ≡ digit-class (class-of (getD s i 0)) → getD s i 0 ≤ 57 → (m : ℕ) → m ≡ capped n (getD s i 0) → Digits s from (i + 1) m
-unfolding value size
+unfolding digits-value size
 digits-more s from i n D g e h m q =
     let x = getD s i 0 in
     let v = D .true-value in
@@ -97,16 +97,16 @@ digits-more s from i n D g e h m q =
       bound = step .0;
       many = omega (arith, D .behind);
       left = D .left ∙ ap (λ (w : List ℕ × List ℕ). w .1) one;
-      worth = D .worth ∙ ap (λ (w : List ℕ × List ℕ). value v (w .0)) one;
+      worth = D .worth ∙ ap (λ (w : List ℕ × List ℕ). digits-value v (w .0)) one;
       equal = step .1;
     }
 
 -- the definition's tests on the digits and on what is left
 abbrev allowed : List ℕ → Bool
-allowed w = leb 1 (size w) && ltb (value 0 w) step-number
+allowed w = leb 1 (size w) && ltb (digits-value 0 w) step-number
 
 abbrev behind-number : ℕ → List ℕ × List ℕ → Option (ℕ × List ℕ)
-behind-number follows t = elim (t .1) [ [] ↦ none | x ∷ l ↦ when (eqb x follows) (value 0 (t .0), l) ]
+behind-number follows t = elim (t .1) [ [] ↦ none | x ∷ l ↦ when (eqb x follows) (digits-value 0 (t .0), l) ]
 
 parted : ℕ → List ℕ × List ℕ → Option (ℕ × List ℕ)
 parted follows s = when (allowed (s .0)) s >>= behind-number follows
@@ -132,13 +132,13 @@ unfolding parted
 parted-other follows x w l n = go (allowed w) (ne-eqb x follows n)
   where
     go : (b : Bool) → eqb x follows ≡ false → (when b (w, x ∷ l) >>= behind-number follows) ≡ none
-    go true e = ap (λ (b : Bool). when b (value 0 w, l)) e
+    go true e = ap (λ (b : Bool). when b (digits-value 0 w, l)) e
     go false e = refl
 
-parted-some : (follows x : ℕ) (w l : List ℕ) → allowed w ≡ true → x ≡ follows → parted follows (w, x ∷ l) ≡ some (value 0 w, l)
+parted-some : (follows x : ℕ) (w l : List ℕ) → allowed w ≡ true → x ≡ follows → parted follows (w, x ∷ l) ≡ some (digits-value 0 w, l)
 unfolding parted
 parted-some follows x w l a e =
-    ap (λ (b : Bool). when b (w, x ∷ l) >>= behind-number follows) a ∙ ap (λ (b : Bool). when b (value 0 w, l)) (eq-eqb x follows e)
+    ap (λ (b : Bool). when b (w, x ∷ l) >>= behind-number follows) a ∙ ap (λ (b : Bool). when b (digits-value 0 w, l)) (eq-eqb x follows e)
 
 and-false : (a : Bool) → (a && false) ≡ false
 and-false true = refl
@@ -170,15 +170,15 @@ module _ (s : List ℕ) (from i n follows : ℕ) (D : Digits s from i n) where
         let b : size (span digit-class (drop i s) .0) ≡ 0 = ap (λ (w : List ℕ × List ℕ). size (w .0)) here in
         omega arith
 
-    worth-all : value 0 (span digit-class (drop from s) .0) ≡ D .true-value
-    unfolding value
-    worth-all = D .worth ∙ ap (λ (w : List ℕ × List ℕ). value (D .true-value) (w .0)) here
+    worth-all : digits-value 0 (span digit-class (drop from s) .0) ≡ D .true-value
+    unfolding digits-value
+    worth-all = D .worth ∙ ap (λ (w : List ℕ × List ℕ). digits-value (D .true-value) (w .0)) here
 
     pub number-empty : i ≡ from → Numbered s from follows Nothing
     number-empty q =
         let z : i - from ≡ 0 = omega arith in
         record {
-          says = sym (whole ∙ parted-refused follows _ _ (ap (λ (k : ℕ). leb 1 k && ltb (value 0 (span digit-class (drop from s) .0)) step-number) (long ∙ z)));
+          says = sym (whole ∙ parted-refused follows _ _ (ap (λ (k : ℕ). leb 1 k && ltb (digits-value 0 (span digit-class (drop from s) .0)) step-number) (long ∙ z)));
           forward = tt;
         }
 
@@ -187,7 +187,7 @@ module _ (s : List ℕ) (from i n follows : ℕ) (D : Digits s from i n) where
         let z : step-number ≤ D .true-value = large (D .equal) in
         let w = span digit-class (drop from s) .0 in
         record {
-          says = sym (whole ∙ parted-refused follows w _ (ap (λ (b : Bool). leb 1 (size w) && b) (le-ltb (value 0 w) step-number (omega (arith, worth-all))) ∙ and-false (leb 1 (size w))));
+          says = sym (whole ∙ parted-refused follows w _ (ap (λ (b : Bool). leb 1 (size w) && b) (le-ltb (digits-value 0 w) step-number (omega (arith, worth-all))) ∙ and-false (leb 1 (size w))));
           forward = tt;
         }
       where
@@ -201,9 +201,9 @@ module _ (s : List ℕ) (from i n follows : ℕ) (D : Digits s from i n) where
     pub number-at : (i ≡ from → ⊥) → n < step-number → getD s i 0 ≡ follows → Numbered s from follows (At n (cursor (i + 1)))
     number-at a b q =
         let w = span digit-class (drop from s) .0 in
-        let v : value 0 w ≡ n = worth-all ∙ exact (D .equal) in
+        let v : digits-value 0 w ≡ n = worth-all ∙ exact (D .equal) in
         let k : 1 ≤ size w = omega (arith, long, D .behind, a) in
-        let t : allowed w ≡ true = ap (λ (b : Bool). b && ltb (value 0 w) step-number) (le-leb 1 (size w) k) ∙ lt-ltb (value 0 w) step-number (omega arith) in
+        let t : allowed w ≡ true = ap (λ (b : Bool). b && ltb (digits-value 0 w) step-number) (le-leb 1 (size w) k) ∙ lt-ltb (digits-value 0 w) step-number (omega arith) in
         record {
           says = sym (whole ∙ parted-some follows (getD s i 0) w (drop (i + 1) s) t q ∙ ap (λ (m : ℕ). some (m, drop (i + 1) s)) v);
           forward = record { ahead = omega (arith, D .behind); inside = omega arith };

@@ -10,7 +10,7 @@ use lib.Dec.{T, eqb, leb, eqb→eq, eqb-refl}
 use Rattle.constraint.specs.Tree.{Label}
 use Rattle.constraint.proofs.Lists.{and-T, or-T}
 use Rattle.akl.specs.Base.{Name, bytes, bytes-from, size, all, decimal, decimal-from}
-use Rattle.akl.specs.StepsText.{value}
+use Rattle.akl.specs.StepsText.{digits-value}
 use Rattle.akl.specs.Token.{Class, small, capital, digit, underscore, blank, mark, other, class-of, word-class, digit-class}
 use Rattle.akl.specs.Answers.{Term, unbound, built, Terms, no-terms, more-terms}
 use Rattle.akl.specs.Limits.{name-bytes}
@@ -80,8 +80,8 @@ decimal-word (suc fuel) n tail h = go (eqb (n / 10) 0) (λ w. decimal-word fuel 
     go true ih = new
     go false ih = ih new
 
-decimal-value : (fuel n : ℕ) (tail : List ℕ) → n < fuel → value 0 (decimal-from fuel n tail) ≡ value n tail
-unfolding decimal-from value
+decimal-value : (fuel n : ℕ) (tail : List ℕ) → n < fuel → digits-value 0 (decimal-from fuel n tail) ≡ digits-value n tail
+unfolding decimal-from digits-value
 decimal-value zero n tail l = absurd (omega arith)
 decimal-value (suc fuel) n tail l = go (eqb (n / 10) 0) (λ t. eqb→eq (n / 10) 0 t) (λ e. subst (λ z. T (eqb z 0)) (sym e) (eqb-refl 0)) (λ m. decimal-value fuel (n / 10) ((48 + n % 10) ∷ tail) m)
   where
@@ -98,13 +98,13 @@ decimal-value (suc fuel) n tail l = go (eqb (n / 10) 0) (λ t. eqb→eq (n / 10)
         by (yes p) = omega arith
         by (no p) = absurd (m (omega arith))
 
-    go : (b : Bool) → (T b → n / 10 ≡ 0) → (n / 10 ≡ 0 → T b) → (n / 10 < fuel → value 0 (decimal-from fuel (n / 10) ((48 + n % 10) ∷ tail)) ≡ value (n / 10) ((48 + n % 10) ∷ tail)) → value 0 (elim b as (λ z. List ℕ) [ true ↦ (48 + n % 10) ∷ tail | false ↦ decimal-from fuel (n / 10) ((48 + n % 10) ∷ tail) ]) ≡ value n tail
-    go true f g ih = ap (λ k. value k tail) (low (f tt))
-    go false f g ih = ih (falls g) ∙ ap (λ k. value k tail) high
+    go : (b : Bool) → (T b → n / 10 ≡ 0) → (n / 10 ≡ 0 → T b) → (n / 10 < fuel → digits-value 0 (decimal-from fuel (n / 10) ((48 + n % 10) ∷ tail)) ≡ digits-value (n / 10) ((48 + n % 10) ∷ tail)) → digits-value 0 (elim b as (λ z. List ℕ) [ true ↦ (48 + n % 10) ∷ tail | false ↦ decimal-from fuel (n / 10) ((48 + n % 10) ∷ tail) ]) ≡ digits-value n tail
+    go true f g ih = ap (λ k. digits-value k tail) (low (f tt))
+    go false f g ih = ih (falls g) ∙ ap (λ k. digits-value k tail) high
 
 decimal-inj : (i j : ℕ) → decimal i ≡ decimal j → i ≡ j
-unfolding decimal value
-decimal-inj i j e = sym (decimal-value (suc i) i [] (omega arith)) ∙ ap (value 0) e ∙ decimal-value (suc j) j [] (omega arith)
+unfolding decimal digits-value
+decimal-inj i j e = sym (decimal-value (suc i) i [] (omega arith)) ∙ ap (digits-value 0) e ∙ decimal-value (suc j) j [] (omega arith)
 
 -- ---------------------------------------------------------------------------------------------
 -- Labels.

@@ -9,14 +9,14 @@ use native.Mathlib.Decide.{ℕ-discrete}
 use lib.Dec.{T}
 use Rattle.constraint.specs.Tree.{Label, label-dec}
 use Rattle.constraint.specs.Constraint.{Con, ctrue, cfail, ceq, capp, Store, Asg, Satisfiable, In, varsAll, Sats}
-use Rattle.constraint.specs.Solve.{Bnd, free, fun, Bound, find, remove, St, start, merge, put, pairs, again, clash?, onEq, onApp, run, solve, satisfiable?}
+use Rattle.constraint.specs.Solve.{Bnd, free, fun, Bound, find, remove, St, untold, merge, put, pairs, again, clash?, onEq, onApp, tell-all, solve, satisfiable?}
 use Rattle.constraint.proofs.Lists.{and-T}
 use Rattle.constraint.proofs.Solver.{Means}
 use Rattle.constraint.proofs.Decision.{start-ok}
 use Rattle.akl.specs.Base.{Name, bytes, bytes-from, size, all, range, if}
 use Rattle.akl.specs.Syntax.{Program}
 use Rattle.akl.specs.Configuration.{Kind, goal, member, Node, or, and, stmt, choice-box, guard, Nodes, nil, cons}
-use Rattle.akl.specs.Answers.{Answer, solved-box, answers, answers-all, Term, unbound, built, Terms, no-terms, more-terms, terms, term-of, value, unknowns-all, term-text, arguments-text, rest-text, bindings-text, line-text, solved-text, answer-text}
+use Rattle.akl.specs.Answers.{Answer, solved-box, answers, answers-all, Term, unbound, built, Terms, no-terms, more-terms, terms, term-of, variable-term, unknowns-all, term-text, arguments-text, rest-text, bindings-text, line-text, solved-text, answer-text}
 use Rattle.akl.specs.WellFormed.{stored-fits, few, spelled-name, spelled-digits, statements-pass}
 use Rattle.theory.specs.Scope.{Sub, Ok, OkAll}
 use Rattle.runs.specs.Calls.{AnswerIn, Allows}
@@ -85,8 +85,8 @@ abbrev SpelledState : Option St → Type 0
 SpelledState none = Unit {0}
 SpelledState (some s) = SpelledBounds (s .bs)
 
-run-spelled : (n : ℕ) (s : St) (p : Store) → SpelledBounds (s .bs) → SpelledStore p → SpelledState (run n s p)
-unfolding run
+run-spelled : (n : ℕ) (s : St) (p : Store) → SpelledBounds (s .bs) → SpelledStore p → SpelledState (tell-all n s p)
+unfolding tell-all
 run-spelled zero s p h k = tt
 run-spelled (suc n) s [] h k = h
 run-spelled (suc n) s (cfail ∷ p) h k = tt
@@ -105,14 +105,14 @@ unfolding terms
 terms-spelled f [] h = tt
 terms-spelled f (y ∷ ys) h = (h y, terms-spelled f ys h)
 
-value-spelled : (n : ℕ) (s : St) (x : ℕ) → SpelledBounds (s .bs) → SpelledTerm (value n s x)
-unfolding value
+value-spelled : (n : ℕ) (s : St) (x : ℕ) → SpelledBounds (s .bs) → SpelledTerm (variable-term n s x)
+unfolding variable-term
 value-spelled zero s x h = tt
 value-spelled (suc n) s x h = go (find (s .rep x) (s .bs)) (find-spelled (s .rep x) (s .bs) h) (λ y. value-spelled n s y h)
   where
-    go : (b : Bnd) → SpelledBnd b → ((y : ℕ) → SpelledTerm (value n s y)) → SpelledTerm (term-of (value n s) (s .rep x) b)
+    go : (b : Bnd) → SpelledBnd b → ((y : ℕ) → SpelledTerm (variable-term n s y)) → SpelledTerm (term-of (variable-term n s) (s .rep x) b)
     go free k ih = tt
-    go (fun f ys) k ih = (k, terms-spelled (value n s) ys ih)
+    go (fun f ys) k ih = (k, terms-spelled (variable-term n s) ys ih)
 
 mutual
   unfolding numbered-term
@@ -161,11 +161,11 @@ as-many [] f n l = tt
 as-many (x ∷ xs) f n l = as-many xs f (suc n) l
 
 -- its solved state
-solved-state : (a : Answer) → Fair a → (s : St) × (solve start (a .1) ≡ some s) × SpelledBounds (s .bs)
-unfolding Means solve start
-solved-state a f = go (solve start (a .1)) refl (start-ok (a .1)) (run-spelled _ start (a .1) tt (f .labels))
+solved-state : (a : Answer) → Fair a → (s : St) × (solve untold (a .1) ≡ some s) × SpelledBounds (s .bs)
+unfolding Means solve untold
+solved-state a f = go (solve untold (a .1)) refl (start-ok (a .1)) (run-spelled _ untold (a .1) tt (f .labels))
   where
-    go : (o : Option St) → solve start (a .1) ≡ o → ((ρ : Asg) → Sats ρ (a .1) ↔ Means ρ o) → SpelledState o → (s : St) × (solve start (a .1) ≡ some s) × SpelledBounds (s .bs)
+    go : (o : Option St) → solve untold (a .1) ≡ o → ((ρ : Asg) → Sats ρ (a .1) ↔ Means ρ o) → SpelledState o → (s : St) × (solve untold (a .1) ≡ some s) × SpelledBounds (s .bs)
     go none e h k = absurd (h (f .sat .0) .0 (f .sat .1))
     go (some s) e h k = (s, e, k)
 
@@ -177,7 +177,7 @@ module _ (xs : List Name) where
   unfolding answer-text
   text-shown a f =
       let w = solved-state a f in
-      ap (solved-text xs) (w .1) ∙ text-line xs (terms (value (suc (size (w .0 .bs))) (w .0)) (range 0 q)) ∙ ap (λ o. line-bytes xs (numbered-terms (solved-terms q o) (unknowns-all (solved-terms q o) []))) (sym (w .1))
+      ap (solved-text xs) (w .1) ∙ text-line xs (terms (variable-term (suc (size (w .0 .bs))) (w .0)) (range 0 q)) ∙ ap (λ o. line-bytes xs (numbered-terms (solved-terms q o) (unknowns-all (solved-terms q o) []))) (sym (w .1))
 
   -- the trees that fit its text are its solutions
   pub text-solutions : (a : Answer) → Fair a → (ρ : Asg) → FitsText q (shown-terms q a) ρ ↔ Allows q a ρ
@@ -186,7 +186,7 @@ module _ (xs : List Name) where
   shown-spelled : (a : Answer) → Fair a → SpelledTerms (shown-terms q a) × AsMany xs (shown-terms q a)
   shown-spelled a f =
       let w = solved-state a f in
-      subst (λ o. SpelledTerms (numbered-terms (solved-terms q o) (unknowns-all (solved-terms q o) [])) × AsMany xs (numbered-terms (solved-terms q o) (unknowns-all (solved-terms q o) []))) (sym (w .1)) (numbered-spelled-all (terms (value (suc (size (w .0 .bs))) (w .0)) (range 0 q)) _ (terms-spelled (value (suc (size (w .0 .bs))) (w .0)) (range 0 q) (λ y. value-spelled (suc (size (w .0 .bs))) (w .0) y (w .2))), as-many xs (value (suc (size (w .0 .bs))) (w .0)) 0 _)
+      subst (λ o. SpelledTerms (numbered-terms (solved-terms q o) (unknowns-all (solved-terms q o) [])) × AsMany xs (numbered-terms (solved-terms q o) (unknowns-all (solved-terms q o) []))) (sym (w .1)) (numbered-spelled-all (terms (variable-term (suc (size (w .0 .bs))) (w .0)) (range 0 q)) _ (terms-spelled (variable-term (suc (size (w .0 .bs))) (w .0)) (range 0 q) (λ y. value-spelled (suc (size (w .0 .bs))) (w .0) y (w .2))), as-many xs (variable-term (suc (size (w .0 .bs))) (w .0)) 0 _)
 
   -- The text reads as the shown terms, and as no others.
   pub text-reads : (a : Answer) → Fair a → ReadsAs xs (answer-text xs a) (shown-terms q a)
@@ -196,12 +196,12 @@ module _ (xs : List Name) where
   reads-once t ss ts r s = line-inj xs ss ts (r .as-many) (s .as-many) (r .spelled) (s .spelled) (sym (r .printed) ∙ s .printed)
 
   same-shown : (a b : Answer) → Fair a → Fair b → ((ρ : Asg) → Allows q a ρ ↔ Allows q b ρ) → shown-terms q a ≡ shown-terms q b
-  same-shown a b f g h = subst (λ o. numbered-terms (solved-terms q o) (unknowns-all (solved-terms q o) []) ≡ shown-terms q b) (sym (u .1)) (subst (λ o. numbered-terms (solved-terms q (some (u .0))) (unknowns-all (solved-terms q (some (u .0))) []) ≡ numbered-terms (solved-terms q o) (unknowns-all (solved-terms q o) [])) (sym (v .1)) (same-fit q (value (suc (size (u .0 .bs))) (u .0)) (value (suc (size (v .0 .bs))) (v .0)) (subst (λ o. SpelledTerms (numbered-terms (solved-terms q o) (unknowns-all (solved-terms q o) []))) (u .1) (shown-spelled a f .0)) (subst (λ o. SpelledTerms (numbered-terms (solved-terms q o) (unknowns-all (solved-terms q o) []))) (v .1) (shown-spelled b g .0)) fits))
+  same-shown a b f g h = subst (λ o. numbered-terms (solved-terms q o) (unknowns-all (solved-terms q o) []) ≡ shown-terms q b) (sym (u .1)) (subst (λ o. numbered-terms (solved-terms q (some (u .0))) (unknowns-all (solved-terms q (some (u .0))) []) ≡ numbered-terms (solved-terms q o) (unknowns-all (solved-terms q o) [])) (sym (v .1)) (same-fit q (variable-term (suc (size (u .0 .bs))) (u .0)) (variable-term (suc (size (v .0 .bs))) (v .0)) (subst (λ o. SpelledTerms (numbered-terms (solved-terms q o) (unknowns-all (solved-terms q o) []))) (u .1) (shown-spelled a f .0)) (subst (λ o. SpelledTerms (numbered-terms (solved-terms q o) (unknowns-all (solved-terms q o) []))) (v .1) (shown-spelled b g .0)) fits))
     where
-      u : (s : St) × (solve start (a .1) ≡ some s) × SpelledBounds (s .bs)
+      u : (s : St) × (solve untold (a .1) ≡ some s) × SpelledBounds (s .bs)
       u = solved-state a f
 
-      v : (s : St) × (solve start (b .1) ≡ some s) × SpelledBounds (s .bs)
+      v : (s : St) × (solve untold (b .1) ≡ some s) × SpelledBounds (s .bs)
       v = solved-state b g
 
       abbrev-terms : Option St → Terms

@@ -11,7 +11,7 @@ use lib.ListN.{length}
 use lib.Dec.{T, eqb, eqb→eq, eqb-refl}
 use Rattle.constraint.specs.Tree.{Label, Tree, Forest, node, fnil, fcons}
 use Rattle.constraint.specs.Constraint.{Store, Asg, trees, Sats, Satisfiable, In, Off, varsAll}
-use Rattle.constraint.specs.Solve.{Bnd, free, fun, Bound, find, St, start, solve, keys, acyclic?, sat-of, satisfiable?, elem}
+use Rattle.constraint.specs.Solve.{Bnd, free, fun, Bound, find, St, untold, solve, keys, acyclic?, sat-of, satisfiable?, elem}
 use Rattle.constraint.proofs.Form.{Form, form, at, build, Solves, Below, Ranked, Stuck}
 use Rattle.constraint.proofs.Lists.{elem-In, In-append}
 use Rattle.constraint.proofs.Trees.{dec-in, trees-agree}
@@ -21,7 +21,7 @@ use Rattle.constraint.proofs.Solver.{Means}
 use Rattle.constraint.proofs.Cycle.{cycle-bound}
 use Rattle.constraint.proofs.Decision.{start-ok}
 use Rattle.akl.specs.Base.{size, range, if}
-use Rattle.akl.specs.Answers.{Answer, Term, unbound, built, Terms, no-terms, more-terms, terms, term-of, value, unknowns, unknowns-all, position}
+use Rattle.akl.specs.Answers.{Answer, Term, unbound, built, Terms, no-terms, more-terms, terms, term-of, variable-term, unknowns, unknowns-all, position}
 use Rattle.theory.specs.Meaning.{hidden-locals}
 use Rattle.theory.specs.Scope.{Sub}
 use Rattle.runs.specs.Calls.{Allows}
@@ -39,8 +39,8 @@ module _ (s : St) where
   forest-terms f τ ρ (y ∷ ys) h = λ i. fcons (h y (inl refl) i) (forest-terms f τ ρ ys (λ z j. h z (inr j)) i)
 
   -- a solution gives each variable the tree of its term, its own values being those of the unknowns
-  value-solves : (ρ : Asg) → Solves ρ (form s) → (n x : ℕ) → tree-of (value n s x) ρ ≡ ρ x
-  unfolding value
+  value-solves : (ρ : Asg) → Solves ρ (form s) → (n x : ℕ) → tree-of (variable-term n s x) ρ ≡ ρ x
+  unfolding variable-term
   value-solves ρ h zero x = sym (same x)
     where
       same : (y : ℕ) → ρ y ≡ ρ (s .rep y)
@@ -50,19 +50,19 @@ module _ (s : St) where
       same : (y : ℕ) → ρ y ≡ ρ (s .rep y)
       same y = h y ∙ sym (h (s .rep y) ∙ ap (λ v. build ρ (ρ v) (find v (s .bs))) (s .idem y))
 
-      go : (b : Bnd) → find (s .rep x) (s .bs) ≡ b → ((y : ℕ) → tree-of (value n s y) ρ ≡ ρ y) → tree-of (term-of (value n s) (s .rep x) b) ρ ≡ ρ x
+      go : (b : Bnd) → find (s .rep x) (s .bs) ≡ b → ((y : ℕ) → tree-of (variable-term n s y) ρ ≡ ρ y) → tree-of (term-of (variable-term n s) (s .rep x) b) ρ ≡ ρ x
       go free e ih = sym (same x)
-      go (fun f ys) e ih = ap (node f) (forest-terms (value n s) ρ ρ ys (λ y i. ih y)) ∙ sym (h x ∙ ap (build ρ (ρ (s .rep x))) e)
+      go (fun f ys) e ih = ap (node f) (forest-terms (variable-term n s) ρ ρ ys (λ y i. ih y)) ∙ sym (h x ∙ ap (build ρ (ρ (s .rep x))) e)
 
   -- and every choice for the unknowns is met by a solution, where ranks are below n
-  value-solution : (R : Ranked (form s)) (τ : Asg) (n x : ℕ) → R .rk x < n → tree-of (value n s x) τ ≡ solution (form s) R τ x
-  unfolding value
+  value-solution : (R : Ranked (form s)) (τ : Asg) (n x : ℕ) → R .rk x < n → tree-of (variable-term n s x) τ ≡ solution (form s) R τ x
+  unfolding variable-term
   value-solution R τ zero x l = absurd (omega arith)
   value-solution R τ (suc n) x l = go (find (s .rep x) (s .bs)) refl (R .down x) (λ y k. value-solution R τ n y k)
     where
-      go : (b : Bnd) → find (s .rep x) (s .bs) ≡ b → Below (R .rk) (R .rk x) (find (s .rep x) (s .bs)) → ((y : ℕ) → R .rk y < n → tree-of (value n s y) τ ≡ solution (form s) R τ y) → tree-of (term-of (value n s) (s .rep x) b) τ ≡ solution (form s) R τ x
+      go : (b : Bnd) → find (s .rep x) (s .bs) ≡ b → Below (R .rk) (R .rk x) (find (s .rep x) (s .bs)) → ((y : ℕ) → R .rk y < n → tree-of (variable-term n s y) τ ≡ solution (form s) R τ y) → tree-of (term-of (variable-term n s) (s .rep x) b) τ ≡ solution (form s) R τ x
       go free e w ih = sym (solution-free (form s) R τ x e)
-      go (fun f ys) e w ih = ap (node f) (forest-terms (value n s) τ (solution (form s) R τ) ys (λ y i. ih y (omega (arith, subst (Below (R .rk) (R .rk x)) e w y i)))) ∙ sym (solution-eq (form s) R τ x ∙ ap (build (solution (form s) R τ) (τ (s .rep x))) e)
+      go (fun f ys) e w ih = ap (node f) (forest-terms (variable-term n s) τ (solution (form s) R τ) ys (λ y i. ih y (omega (arith, subst (Below (R .rk) (R .rk x)) e w y i)))) ∙ sym (solution-eq (form s) R τ x ∙ ap (build (solution (form s) R τ) (τ (s .rep x))) e)
 
 size-keys : (r : ℕ → ℕ) (bs : List Bound) → length (keys r bs) ≡ size bs
 unfolding keys size
@@ -85,7 +85,7 @@ forest-head ρ (z ∷ ys) ρ′ e y (inr i) = forest-head ρ ys ρ′ (cc e) y i
 module _ (q : ℕ) (a : Answer) (sat : Satisfiable (a .1)) (own : Sub (varsAll (a .1)) (a .0)) where
   class-iff : (ρ : Asg) → FitsText q (class-terms q a) ρ ↔ Allows q a ρ
   unfolding Means
-  class-iff ρ = go (solve start (a .1)) (start-ok (a .1))
+  class-iff ρ = go (solve untold (a .1)) (start-ok (a .1))
     where
       σ : Store
       σ = a .1
@@ -100,7 +100,7 @@ module _ (q : ℕ) (a : Answer) (sat : Satisfiable (a .1)) (own : Sub (varsAll (
           F : ℕ
           F = suc (size (s .bs))
 
-          cyc : (T (acyclic? s) × ((R : Ranked (form s)) × (R .top ≤ suc (length (keys (s .rep) (s .bs)))))) ⊎ ((T (acyclic? s) → ⊥) × Stuck (form s)) → FitsText q (terms (value F s) (range 0 q)) ρ ↔ Allows q a ρ
+          cyc : (T (acyclic? s) × ((R : Ranked (form s)) × (R .top ≤ suc (length (keys (s .rep) (s .bs)))))) ⊎ ((T (acyclic? s) → ⊥) × Stuck (form s)) → FitsText q (terms (variable-term F s) (range 0 q)) ρ ↔ Allows q a ρ
           cyc (inr k) = absurd (stuck-none (form s) (k .1) (sat .0) (h (sat .0) .0 (sat .1)))
           cyc (inl r) = (to-it, from-it)
             where
@@ -110,15 +110,15 @@ module _ (q : ℕ) (a : Answer) (sat : Satisfiable (a .1)) (own : Sub (varsAll (
               low : (x : ℕ) → R .rk x < F
               low x = omega (arith, R .low x, r .1 .1, size-keys (s .rep) (s .bs))
 
-              from-it : Allows q a ρ → FitsText q (terms (value F s) (range 0 q)) ρ
+              from-it : Allows q a ρ → FitsText q (terms (variable-term F s) (range 0 q)) ρ
               from-it w =
                   let π = w .0 in
-                  (π, trees-range ρ π q (λ x l. w .1 x (λ i. hid x l (hidden-In q x vs .0 i .1))) ∙ sym (forest-terms s (value F s) π π (range 0 q) (λ y i. value-solves s π (h π .0 (w .2)) F y)))
+                  (π, trees-range ρ π q (λ x l. w .1 x (λ i. hid x l (hidden-In q x vs .0 i .1))) ∙ sym (forest-terms s (variable-term F s) π π (range 0 q) (λ y i. value-solves s π (h π .0 (w .2)) F y)))
                 where
                   hid : (x : ℕ) → x < q → q ≤ x → ⊥
                   hid x l k = omega arith
 
-              to-it : FitsText q (terms (value F s) (range 0 q)) ρ → Allows q a ρ
+              to-it : FitsText q (terms (variable-term F s) (range 0 q)) ρ → Allows q a ρ
               to-it w = (ρ′, mix-out (hidden-locals q vs) ρ π, sats-on π ρ′ σ agree (h π .1 (solution-solves (form s) R (w .0))))
                 where
                   π : Asg
@@ -128,7 +128,7 @@ module _ (q : ℕ) (a : Answer) (sat : Satisfiable (a .1)) (own : Sub (varsAll (
                   ρ′ = mix (hidden-locals q vs) ρ π
 
                   shown : trees ρ (range 0 q) ≡ trees π (range 0 q)
-                  shown = w .1 ∙ forest-terms s (value F s) (w .0) π (range 0 q) (λ y i. value-solution s R (w .0) F y (low y))
+                  shown = w .1 ∙ forest-terms s (variable-term F s) (w .0) π (range 0 q) (λ y i. value-solution s R (w .0) F y (low y))
 
                   on-query : (x : ℕ) → x < q → ρ x ≡ π x
                   on-query x l = forest-head ρ (range 0 q) π shown x (In-range x 0 q (omega arith) (omega arith))

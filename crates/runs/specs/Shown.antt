@@ -7,11 +7,11 @@ use Prim.Native.Nat.{ℕ, zero, suc}
 use lib.Dec.{T}
 use Rattle.constraint.specs.Tree.{Label, Tree, Forest, node, fnil, fcons}
 use Rattle.constraint.specs.Constraint.{Con, ctrue, cfail, ceq, capp, Store, Asg, trees, Satisfiable, varsAll}
-use Rattle.constraint.specs.Solve.{St, start, solve}
+use Rattle.constraint.specs.Solve.{St, untold, solve}
 use Rattle.akl.specs.Base.{Name, bytes, size, range, decimal}
 use Rattle.akl.specs.WellFormed.{spelled-name, spelled-digits}
 use Rattle.theory.specs.Scope.{Sub}
-use Rattle.akl.specs.Answers.{Answer, Term, unbound, built, Terms, no-terms, more-terms, terms, value, unknowns-all, position}
+use Rattle.akl.specs.Answers.{Answer, Term, unbound, built, Terms, no-terms, more-terms, terms, variable-term, unknowns-all, position}
 
 -- The tree of a term, with τ for its unknowns.
 abbrev mutual
@@ -41,10 +41,10 @@ unfoldable mutual
 -- The terms that an answer's text shows.
 abbrev pub solved-terms : ℕ → Option St → Terms
 solved-terms q none = no-terms
-solved-terms q (some s) = terms (value (suc (size (s .bs))) s) (range 0 q)
+solved-terms q (some s) = terms (variable-term (suc (size (s .bs))) s) (range 0 q)
 
 abbrev pub class-terms : ℕ → Answer → Terms
-class-terms q a = solved-terms q (solve start (a .1))
+class-terms q a = solved-terms q (solve untold (a .1))
 
 abbrev pub shown-terms : ℕ → Answer → Terms
 shown-terms q a = numbered-terms (class-terms q a) (unknowns-all (class-terms q a) [])

@@ -13,7 +13,7 @@ use Rattle.akl.specs.Base.{Name, size, range}
 use Rattle.akl.specs.Syntax.{Var, number, level, Op, Stmt, atom, call, hide, choice, Clauses, no-more, clause, Program, defined, opened}
 use Rattle.akl.specs.Configuration.{Kind, goal, member, guarded, Node, or, and, stmt, choice-box, guard, Nodes, nil, cons, _+n_, one}
 use Rattle.akl.specs.Rules.{fresh, guarded-goals, number-of}
-use Rattle.theory.specs.Meaning.{leaf, look, Model, Holds, Some, BodyHolds, Atoms, hidden-locals, nothing, HoldsWith, All, Any}
+use Rattle.theory.specs.Meaning.{leaf, look, Model, Holds, SomeClause, BodyHolds, Atoms, hidden-locals, nothing, HoldsWith, All, Any}
 use Rattle.akl.specs.WellFormed.{numbers, clauses-numbers}
 use Rattle.theory.specs.Scope.{Sub, Disjoint, Below, Fits, Shared, Ok, OkAll}
 use Rattle.theory.specs.Entails.{Entails}
@@ -152,7 +152,7 @@ module _ (Q : Model) (q : ℕ) where
         agree = back-agree q vs (range N n) (ys w u) (new w u) ρ ρ″
 
   -- 5 choice
-  clauses-iff : (cs : Clauses) (N M : ℕ) → q ≤ N → N ≤ M → (ρ : Asg) → Below (clauses-numbers cs) N → Some cs Q ρ [] ↔ Any (guarded-goals cs M) Q q ρ nothing
+  clauses-iff : (cs : Clauses) (N M : ℕ) → q ≤ N → N ≤ M → (ρ : Asg) → Below (clauses-numbers cs) N → SomeClause cs Q ρ [] ↔ Any (guarded-goals cs M) Q q ρ nothing
   unfolding guarded-goals numbers
   clauses-iff no-more N M l m ρ lo = (λ h. h, λ h. h)
   clauses-iff (clause n g b cs) N M l m ρ lo = (to-it (clauses-iff cs N (M + n) l (omega arith) ρ lo-cs .0), from-it (clauses-iff cs N (M + n) l (omega arith) ρ lo-cs .1))
@@ -166,11 +166,11 @@ module _ (Q : Model) (q : ℕ) where
       lo-cs : Below (clauses-numbers cs) N
       lo-cs x i = lo x (In-append x (numbers g ++ numbers b) (clauses-numbers cs) .1 (inr i))
 
-      to-it : (Some cs Q ρ [] → Any (guarded-goals cs (M + n)) Q q ρ nothing) → Some (clause n g b cs) Q ρ [] → Any (guarded-goals (clause n g b cs) M) Q q ρ nothing
+      to-it : (SomeClause cs Q ρ [] → Any (guarded-goals cs (M + n)) Q q ρ nothing) → SomeClause (clause n g b cs) Q ρ [] → Any (guarded-goals (clause n g b cs) M) Q q ρ nothing
       to-it ih (inl h) = inl ((assign M (h .0) ρ, assign-off q M n (h .0) ρ (omega arith) (h .1), tt, ((opened-to M n g (h .0) ρ (omega arith) lo-g (h .1) (h .2), tt), tt), opened-to M n b (h .0) ρ (omega arith) lo-b (h .1) (h .3)), tt)
       to-it ih (inr h) = inr (ih h)
 
-      from-it : (Any (guarded-goals cs (M + n)) Q q ρ nothing → Some cs Q ρ []) → Any (guarded-goals (clause n g b cs) M) Q q ρ nothing → Some (clause n g b cs) Q ρ []
+      from-it : (Any (guarded-goals cs (M + n)) Q q ρ nothing → SomeClause cs Q ρ []) → Any (guarded-goals (clause n g b cs) M) Q q ρ nothing → SomeClause (clause n g b cs) Q ρ []
       from-it ih (inl h) =
           let ρ′ = h .0 .0 in
           inl (map ρ′ (range M n), trees-size M n ρ′, opened-from M n g ρ ρ′ lo-g (h .0 .1) (h .0 .3 .0 .0), opened-from M n b ρ ρ′ lo-b (h .0 .1) (h .0 .4))

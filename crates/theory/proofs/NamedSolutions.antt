@@ -17,7 +17,7 @@ use Rattle.akl.specs.Syntax.{Var, number, level, Stmt, atom, call, comp, hide, 
 use Rattle.akl.specs.Configuration.{Kind, Node, or, and, stmt, choice-box, guard, Nodes, nil, cons, Config}
 use Rattle.akl.specs.Reader.{Query}
 use Rattle.akl.specs.WellFormed.{variable-fits, few, constraint-fits, statement-fits, clauses-fit, some-clause, spelled-name, spelled-digits, statement-passes, program-passes, stored-fits, statements-pass, statements-pass-all, depth}
-use Rattle.theory.specs.Meaning.{leaf, look, Model, Holds, Some, BodyHolds, Unfolded, Atoms, nothing, HoldsWith, All, Any, Solution, QuerySolution}
+use Rattle.theory.specs.Meaning.{leaf, look, Model, Holds, SomeClause, BodyHolds, Unfolded, Atoms, nothing, HoldsWith, All, Any, Solution, QuerySolution}
 use Rattle.theory.specs.Formed.{QueryFits}
 use Rattle.theory.specs.Named.{like-name, like-digits, NamedAsg}
 use Rattle.theory.specs.NamedMeaning.{NamedTrees, NamedHolds, NamedSome, named-leaf, NamedBodyHolds, NamedUnfolded, NamedAtoms, NamedHoldsWith, NamedAll, NamedAny, NamedSolution, NamedQuerySolution}
@@ -104,7 +104,7 @@ module _ (P : Program) (free : ℕ → Bool) (Q Q′ : Model) (more : (p : Name)
         (map in-names (h .0), trees-are-named (h .0), size-map in-names (h .0) ∙ h .1, subst (NamedHolds a Q′ (λ x. in-names (ρ x))) (sym (map-join ts (h .0))) (holds-names a (ts ++ h .0) (deeper ts (h .0) m a (h .1) (k .1)) (h .2)))
     holds-names (choice op cs) ts f h = some-names cs ts (and-T (some-clause cs) (clauses-fit cs P free (size ts)) .0 f .1) h
 
-    some-names : (cs : Clauses) (ts : List Tree) → T (clauses-fit cs P free (size ts)) → Some cs Q ρ ts → NamedSome cs Q′ (λ x. in-names (ρ x)) (map in-names ts)
+    some-names : (cs : Clauses) (ts : List Tree) → T (clauses-fit cs P free (size ts)) → SomeClause cs Q ρ ts → NamedSome cs Q′ (λ x. in-names (ρ x)) (map in-names ts)
     some-names (clause m g b cs) ts f (inl h) =
         let k2 = and-T (statement-fits g P free (size ts + m) && statement-fits b P free (size ts + m)) (clauses-fit cs P free (size ts)) .0 f in
         let k1 = and-T (statement-fits g P free (size ts + m)) (statement-fits b P free (size ts + m)) .0 (k2 .0) in
@@ -121,7 +121,7 @@ module _ (Q Q′ : Model) (less : (p : Name) (ts : List Tree) → Q′ p ts → 
     holds-any (hide m a) ts h = (h .0, h .2, holds-any a (ts ++ h .0) (h .3))
     holds-any (choice op cs) ts h = some-any cs ts h
 
-    some-any : (cs : Clauses) (ts : List Tree) → NamedSome cs Q′ ρ ts → Some cs Q ρ ts
+    some-any : (cs : Clauses) (ts : List Tree) → NamedSome cs Q′ ρ ts → SomeClause cs Q ρ ts
     some-any (clause m g b cs) ts (inl h) = inl (h .0, h .2, holds-any g (ts ++ h .0) (h .3), holds-any b (ts ++ h .0) (h .4))
     some-any (clause m g b cs) ts (inr h) = inr (some-any cs ts h)
 

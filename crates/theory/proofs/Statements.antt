@@ -11,7 +11,7 @@ use Rattle.constraint.specs.Constraint.{Con, ctrue, cfail, ceq, capp, mapCon, A
 use Rattle.constraint.proofs.Lists.{In-append}
 use Rattle.akl.specs.Base.{Name, size}
 use Rattle.akl.specs.Syntax.{Var, number, level, Stmt, atom, call, comp, hide, choice, Clauses, no-more, clause, Program, defined, open-level, open-var, opened, opened-clauses}
-use Rattle.theory.specs.Meaning.{leaf, look, Model, Holds, Some, BodyHolds, Unfolded, Atoms}
+use Rattle.theory.specs.Meaning.{leaf, look, Model, Holds, SomeClause, BodyHolds, Unfolded, Atoms}
 use Rattle.akl.specs.WellFormed.{variable-numbers, list-numbers, constraint-numbers, numbers, clauses-numbers}
 
 -- ---------------------------------------------------------------------------------------------
@@ -56,7 +56,7 @@ module _ (Q : Model) (ρ : Asg) (ws : List ℕ) where
     open-holds (hide m a) ts = λ i. (us : List Tree) × (size us ≡ m) × (under a ts us ∙ open-holds a (ts ++ us)) i
     open-holds (choice op cs) ts = open-some cs ts
 
-    open-some : (cs : Clauses) (ts : List Tree) → Some cs Q ρ (map ρ ws ++ ts) ≡ Some (opened-clauses cs (map number ws)) Q ρ ts
+    open-some : (cs : Clauses) (ts : List Tree) → SomeClause cs Q ρ (map ρ ws ++ ts) ≡ SomeClause (opened-clauses cs (map number ws)) Q ρ ts
     open-some no-more ts = refl
     open-some (clause m g b cs) ts = λ i. ((us : List Tree) × (size us ≡ m) × (under g ts us ∙ open-holds g (ts ++ us)) i × (under b ts us ∙ open-holds b (ts ++ us)) i) ⊎ open-some cs ts i
 
@@ -106,7 +106,7 @@ module _ (Q : Model) (ρ ρ′ : Asg) where
     holds-on (hide m a) ts o h = (h .0, h .1, holds-on a (ts ++ h .0) o (h .2))
     holds-on (choice op cs) ts o h = some-on cs ts o h
 
-    some-on : (cs : Clauses) (ts : List Tree) → On (clauses-numbers cs) ρ ρ′ → Some cs Q ρ ts → Some cs Q ρ′ ts
+    some-on : (cs : Clauses) (ts : List Tree) → On (clauses-numbers cs) ρ ρ′ → SomeClause cs Q ρ ts → SomeClause cs Q ρ′ ts
     some-on no-more ts o h = h
     some-on (clause m g b cs) ts o (inl h) =
         let og = on-left (numbers g) (numbers b) ρ ρ′ (on-left (numbers g ++ numbers b) (clauses-numbers cs) ρ ρ′ o) in
@@ -128,7 +128,7 @@ mutual
   holds-more (hide n a) Q Q′ m ρ ts h = (h .0, h .1, holds-more a Q Q′ m ρ (ts ++ h .0) (h .2))
   holds-more (choice op cs) Q Q′ m ρ ts h = some-more cs Q Q′ m ρ ts h
 
-  some-more : (cs : Clauses) (Q Q′ : Model) → Weaker Q Q′ → (ρ : Asg) (ts : List Tree) → Some cs Q ρ ts → Some cs Q′ ρ ts
+  some-more : (cs : Clauses) (Q Q′ : Model) → Weaker Q Q′ → (ρ : Asg) (ts : List Tree) → SomeClause cs Q ρ ts → SomeClause cs Q′ ρ ts
   some-more no-more Q Q′ m ρ ts h = h
   some-more (clause n g b cs) Q Q′ m ρ ts (inl h) = inl (h .0, h .1, holds-more g Q Q′ m ρ (ts ++ h .0) (h .2), holds-more b Q Q′ m ρ (ts ++ h .0) (h .3))
   some-more (clause n g b cs) Q Q′ m ρ ts (inr h) = inr (some-more cs Q Q′ m ρ ts h)
@@ -158,7 +158,7 @@ module _ (P : Program) where
     enough (hide m a) ρ ts h = let x = enough a ρ (ts ++ h .0) (h .2) in (x .0, (h .0, h .1, x .1))
     enough (choice op cs) ρ ts h = enough-some cs ρ ts h
 
-    enough-some : (cs : Clauses) (ρ : Asg) (ts : List Tree) → Some cs (Atoms P) ρ ts → (n : ℕ) × Some cs (Unfolded P n) ρ ts
+    enough-some : (cs : Clauses) (ρ : Asg) (ts : List Tree) → SomeClause cs (Atoms P) ρ ts → (n : ℕ) × SomeClause cs (Unfolded P n) ρ ts
     enough-some (clause m g b cs) ρ ts (inl h) =
         let x = enough g ρ (ts ++ h .0) (h .2) in
         let y = enough b ρ (ts ++ h .0) (h .3) in

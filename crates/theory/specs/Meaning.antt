@@ -38,11 +38,11 @@ abbrev mutual
   Holds (call p xs) Q ρ ts = Q p (map (look ρ ts) xs)
   Holds (comp a b) Q ρ ts = Holds a Q ρ ts × Holds b Q ρ ts
   Holds (hide n a) Q ρ ts = (us : List Tree) × (size us ≡ n) × Holds a Q ρ (ts ++ us)
-  Holds (choice op cs) Q ρ ts = Some cs Q ρ ts
+  Holds (choice op cs) Q ρ ts = SomeClause cs Q ρ ts
 
-  pub Some : Clauses → Model → Asg → List Tree → Type 0
-  Some no-more Q ρ ts = ⊥
-  Some (clause n g b cs) Q ρ ts = ((us : List Tree) × (size us ≡ n) × Holds g Q ρ (ts ++ us) × Holds b Q ρ (ts ++ us)) ⊎ Some cs Q ρ ts
+  pub SomeClause : Clauses → Model → Asg → List Tree → Type 0
+  SomeClause no-more Q ρ ts = ⊥
+  SomeClause (clause n g b cs) Q ρ ts = ((us : List Tree) × (size us ≡ n) × Holds g Q ρ (ts ++ us) × Holds b Q ρ (ts ++ us)) ⊎ SomeClause cs Q ρ ts
 
 -- A program atom holds when its definition's body does, after finitely many unfoldings: n at most here.
 -- A definition has no variables but the bound ones, so that the assignment does not matter.

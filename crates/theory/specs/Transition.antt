@@ -13,9 +13,9 @@ use Rattle.akl.specs.Places.{Place, at}
 use Rattle.akl.specs.Rules.{stored, fresh, guarded-goals, hidden-in}
 
 -- a list that is not empty
-abbrev pub Some : {k : Kind} → Nodes k → Type 0
-Some nil = ⊥
-Some (cons n ns) = Unit {0}
+abbrev pub NotEmpty : {k : Kind} → Nodes k → Type 0
+NotEmpty nil = ⊥
+NotEmpty (cons n ns) = Unit {0}
 
 -- Rule, place, kind and context of the goal that is rewritten, the goal before and after, the next number after. P is the
 -- program, N the next number before.
@@ -39,10 +39,10 @@ pub data Transition (P : Program) (N : ℕ) : ℕ → Place → (k : Kind) → C
   promotion : (χ : Ctx goal) (ws : List ℕ) (θ : Store) (l r : Nodes member) (op : Op) (vs : List ℕ) (σ : Store) (b : Stmt) → (op ≡ wait) ⊎ Quiet vs (env χ ++ θ) σ →
       Transition P N 6 (at (in-and χ ws θ l r) (choice-box op (one (guard (and vs σ nil) b)))) goal χ (and ws θ (l +n cons (choice-box op (one (guard (and vs σ nil) b))) r)) (and (ws ++ vs) (θ ++ σ) (l +n cons (stmt b) r)) N
   -- choice(R, σ_V → B, S) → choice(R, σ_V → B), S not empty, σ quiet
-  condition : (χ : Ctx member) (l r : Nodes guarded) (vs : List ℕ) (σ : Store) (b : Stmt) → Quiet vs (env χ) σ → Some r →
+  condition : (χ : Ctx member) (l r : Nodes guarded) (vs : List ℕ) (σ : Store) (b : Stmt) → Quiet vs (env χ) σ → NotEmpty r →
       Transition P N 7 (at (in-choice χ cond l r) (guard (and vs σ nil) b)) member χ (choice-box cond (l +n cons (guard (and vs σ nil) b) r)) (choice-box cond (l +n one (guard (and vs σ nil) b))) N
   -- choice(R, σ_V | B, S) → choice(σ_V | B), R or S not empty, σ quiet
-  committing : (χ : Ctx member) (l r : Nodes guarded) (vs : List ℕ) (σ : Store) (b : Stmt) → Quiet vs (env χ) σ → Some l ⊎ Some r →
+  committing : (χ : Ctx member) (l r : Nodes guarded) (vs : List ℕ) (σ : Store) (b : Stmt) → Quiet vs (env χ) σ → NotEmpty l ⊎ NotEmpty r →
       Transition P N 8 (at (in-choice χ commit l r) (guard (and vs σ nil) b)) member χ (choice-box commit (l +n cons (guard (and vs σ nil) b) r)) (choice-box commit (one (guard (and vs σ nil) b))) N
   -- and(R)_V^σ → fail, σ and env(χ) incompatible
   environment-failure : (χ : Ctx goal) (vs : List ℕ) (σ : Store) (ms : Nodes member) → ¬ Satisfiable (env χ ++ σ) →
