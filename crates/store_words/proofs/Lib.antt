@@ -1,0 +1,6 @@
+pub mod Back
+pub mod Once
+pub mod Only
+pub mod Known
+pub mod Places
+pub mod Sizes

@@ -1,0 +1,4 @@
+pub mod Boxes
+pub mod Reading
+pub mod Contexts
+pub mod Tables

@@ -1,0 +1,1 @@
+// No code: the words of configurations, and laws.
