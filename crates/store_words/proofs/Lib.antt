@@ -4,3 +4,5 @@ pub mod Only
 pub mod Known
 pub mod Places
 pub mod Sizes
+pub mod Formed
+pub mod Examples
