@@ -1,0 +1,4 @@
+pub mod Names
+pub mod Spelt
+pub mod Bytes
+pub mod Reading

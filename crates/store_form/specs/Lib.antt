@@ -1,0 +1,4 @@
+pub mod Sizes
+pub mod State
+pub mod Form
+pub mod Holding

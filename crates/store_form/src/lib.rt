@@ -1,0 +1,1 @@
+// No code: what the bytes of a store hold, and laws.
