@@ -2,3 +2,5 @@ pub mod Names
 pub mod Spelt
 pub mod Bytes
 pub mod Reading
+pub mod Lengths
+pub mod Examples
