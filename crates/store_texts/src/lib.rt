@@ -1,0 +1,1 @@
+// No code: how many words the program of a text has.
