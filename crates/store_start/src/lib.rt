@@ -1,0 +1,1 @@
+// No code: the state at the start of a query.
