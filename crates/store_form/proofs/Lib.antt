@@ -4,3 +4,4 @@ pub mod Bytes
 pub mod Reading
 pub mod Lengths
 pub mod Examples
+pub mod Keeping

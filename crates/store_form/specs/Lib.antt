@@ -2,3 +2,4 @@ pub mod Sizes
 pub mod State
 pub mod Form
 pub mod Holding
+pub mod Named
