@@ -1,29 +1,28 @@
 -- The store of document 01's record at its start, computed.
-use mathlib.Core.Path.{_≡_, refl, sym, _∙_}
-use mathlib.Core.List.{List, [], _∷_, _++_, map}
-use mathlib.Core.Bool.{Bool, true, false}
-use mathlib.Core.Option.{Option, some, none}
-use Prim.Native.Nat.{ℕ, _+_, _*_, _≤_}
+use mathlib.Core.Path.{_≡_, refl}
+use mathlib.Core.List.{List, [], _∷_}
+use mathlib.Core.Bool.{true, false}
+use mathlib.Core.Option.{some}
+use Prim.Native.Nat.{ℕ, _+_, _*_}
 use native.Mathlib.Omega.{arith}
 use lib.Dec.{T}
-use lib.ListN.{length, take, replicate}
-use Rattle.akl.specs.Base.{Name, bytes, Result, refused, ok}
+use Rattle.akl.specs.Base.{bytes, Result, refused, ok}
 use Rattle.akl.specs.Limits.{most-parts}
 use Rattle.akl.specs.Computed.{everything}
 use Rattle.akl.specs.Syntax.{Program}
 use Rattle.akl.specs.Reader.{Query, read-program, read-query}
-use Rattle.akl.specs.Configuration.{or, nil, Config, start-config}
+use Rattle.akl.specs.Configuration.{or, nil, start-config}
 use Rattle.mem_words.specs.declared.Word.{Word}
 use Rattle.mem_words.specs.declared.Word.the-variants.{End, Free, Level, Num, Place, Inner}
 use Rattle.mem_sorts.specs.declared.Kind.the-variants.{Or, And, Member}
 use Rattle.mem_sorts.specs.declared.Sort.the-variants.{Locals, Store, True, App, Call, Clause, AskWait}
 use Rattle.layout.specs.Layout.{var-word, vars-words, ask, con-words, stmt-words, program-words}
 use Rattle.read_nodes.specs.Spell.{spell, named}
-use Rattle.store_words.specs.Boxes.{box-kind, local-words, store-words, node-words}
-use Rattle.store_form.specs.Sizes.{most-nodes, most-program-words, two-bytes}
-use Rattle.store_form.specs.State.{State, table, number-from, number-in, names-of, well-formed-state}
+use Rattle.store_words.specs.Boxes.{local-words, store-words, node-words}
+use Rattle.store_form.specs.Sizes.{most-nodes, most-program-words}
+use Rattle.store_form.specs.State.{State, number-from, number-in, names-of, well-formed-state}
 use Rattle.store_form.specs.Form.{number-bytes, numbers-bytes, region, rules-words, config-words, header, store-bytes}
-use Rattle.store_form.specs.Holding.{lowered, small-word, Fits, Holds, fits, read-store}
+use Rattle.store_form.specs.Holding.{lowered, small-word, fits, read-store}
 use Rattle.store_form.proofs.Reading.{fits-says, store-back}
 
 -- a node by its parent and its byte

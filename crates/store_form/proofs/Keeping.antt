@@ -1,18 +1,17 @@
 -- A well-formed configuration whose names stand in the table has bytes: so a step from a state that has them needs nothing more.
-use mathlib.Core.Path.{_≡_, refl}
-use mathlib.Core.Logic.{_↔_, _⊎_, inl, inr}
+use mathlib.Core.Path.{refl}
+use mathlib.Core.Logic.{inl, inr}
 use mathlib.Core.List.{List, [], _∷_, _++_, map}
-use mathlib.Core.Bool.{Bool, true, false, _&&_, _||_}
-use Prim.Native.Nat.{ℕ, zero, suc, _+_, _*_, _<_, _≤_}
+use mathlib.Core.Bool.{Bool, true, _&&_, _||_}
+use Prim.Native.Nat.{ℕ, _+_, _<_, _≤_}
 use native.Mathlib.Omega.{arith}
 use lib.Dec.{T, leb, ltb, ltb→lt}
-use lib.ListN.{length}
-use Rattle.constraint.specs.Constraint.{Con, ctrue, cfail, ceq, capp, mapCon, In, vars, varsAll}
+use Rattle.constraint.specs.Constraint.{Con, ctrue, cfail, ceq, capp, mapCon, vars, varsAll}
 use Rattle.constraint.specs.Constraint as constraint
 use Rattle.constraint.proofs.Lists.{and-T, In-append}
 use Rattle.akl.specs.Base.{Name, size, all}
 use Rattle.akl.specs.Limits.{most-depth}
-use Rattle.akl.specs.Syntax.{Var, number, level, Op, Stmt, atom, call, comp, hide, choice, Clauses, no-more, clause, Program, defined}
+use Rattle.akl.specs.Syntax.{Var, number, level, Stmt, atom, call, comp, hide, choice, Clauses, no-more, clause, Program, defined}
 use Rattle.akl.specs.Configuration as akl
 use Rattle.akl.specs.Configuration.{Node, or, and, stmt, choice-box, guard, Nodes, nil, cons, Config}
 use Rattle.akl.specs.Parts.{statement-parts, clauses-parts, parts, parts-all}
@@ -31,7 +30,7 @@ use Rattle.mem_sorts.specs.declared.Kind.{Kind}
 use Rattle.mem_sorts.specs.Shapes.{kind-small, sort-small}
 use Rattle.layout.specs.Layout.{var-word, vars-words, ask, con-words, stmt-words, clauses-words}
 use Rattle.store_words.specs.Boxes.{box-kind, local-words, store-words, node-words, nodes-words}
-use Rattle.store_form.specs.Sizes.{part-words, two-bytes}
+use Rattle.store_form.specs.Sizes.{two-bytes}
 use Rattle.store_form.specs.State.{State, table, number-in}
 use Rattle.store_form.specs.Form.{rules-words, config-words}
 use Rattle.store_form.specs.Holding.{Fits}

@@ -1,10 +1,10 @@
 -- Bytes hold a state exactly when that state is read from them; and a state's bytes are of the documented length.
-use mathlib.Core.Path.{_≡_, refl, ap, ap₂, sym, _∙_, subst}
+use mathlib.Core.Path.{_≡_, refl, ap, sym, _∙_, subst}
 use mathlib.Core.Logic.{_↔_}
-use mathlib.Core.List.{List, [], _∷_, _++_}
+use mathlib.Core.List.{List, [], _∷_}
 use mathlib.Core.Bool.{Bool, true, false, _&&_}
 use mathlib.Core.Option.{Option, some, none, Option·some-injective}
-use Prim.Native.Nat.{ℕ, zero, suc, _+_, _*_, _/_, _<_, _≤_}
+use Prim.Native.Nat.{ℕ, suc, _*_, _<_, _≤_}
 use native.Mathlib.Omega.{arith}
 use lib.Dec.{T, leb, ltb, leb→le, le→leb, ltb→lt, lt→ltb}
 use lib.ListN.{length, getD, take, drop, length-append}
@@ -14,9 +14,7 @@ use Rattle.constraint.proofs.Lists.{and-T}
 use Rattle.akl.specs.Base.{Name, all, same, when, _>>=_}
 use Rattle.akl.specs.Limits.{most-query-variables}
 use Rattle.akl.proofs.Names.{same-eq-T, same-refl-T}
-use Rattle.akl.specs.Syntax.{Program}
-use Rattle.akl.specs.Configuration.{goal, Node, Config}
-use Rattle.layout.specs.Layout.{program-words}
+use Rattle.akl.specs.Configuration.{goal}
 use Rattle.layout.specs.Reading.{read-program}
 use Rattle.layout.proofs.Back.{program-back}
 use Rattle.mem_numbers.specs.Numbers.{triples}
@@ -24,10 +22,9 @@ use Rattle.mem_words.specs.declared.Word.{Word}
 use Rattle.mem_words.specs.Words.{words}
 use Rattle.mem_words.specs.Form.{bytes-of, length-bytes-of, bytes-words}
 use Rattle.read_nodes.specs.Spell.{named}
-use Rattle.store_words.specs.Boxes.{node-words}
 use Rattle.store_words.specs.Reading.{read-node}
 use Rattle.store_words.proofs.Back.{node-back}
-use Rattle.store_form.specs.Sizes.{form-number, most-nodes, most-program-words, part-words, two-bytes, header-length, names-length, program-length, variables-length, config-length, program-start, variables-start, config-start, store-length}
+use Rattle.store_form.specs.Sizes.{most-nodes, most-program-words, part-words, two-bytes, header-length, names-length, program-length, variables-length, config-length, program-start, variables-start, config-start, store-length}
 use Rattle.store_form.specs.State.{State, table, number-in}
 use Rattle.store_form.specs.Form.{numbers-bytes, region, rules-words, config-words, header, store-bytes}
 use Rattle.store_form.specs.Holding.{lowered, small-word, below, Fits, Holds, fits, built, piece, parsed, read-store}

@@ -1,19 +1,18 @@
 -- Where every word's value has two bytes, every name stands in the table.
 use mathlib.Core.Path.{_≡_}
 use mathlib.Core.List.{List, [], _∷_}
-use mathlib.Core.Bool.{Bool, _&&_}
 use Prim.Native.Nat.{ℕ, _<_}
 use lib.Dec.{T, ltb, ltb→lt, lt→ltb}
 use Rattle.constraint.specs.Constraint.{Con, ctrue, cfail, ceq, capp, mapCon}
 use Rattle.constraint.specs.Constraint as constraint
 use Rattle.constraint.proofs.Lists.{and-T}
 use Rattle.akl.specs.Base.{Name, all}
-use Rattle.akl.specs.Syntax.{Var, number, Stmt, atom, call, comp, hide, choice, Clauses, no-more, clause, Def, Program}
+use Rattle.akl.specs.Syntax.{Var, number, Stmt, atom, call, comp, hide, choice, Clauses, no-more, clause, Program}
 use Rattle.akl.specs.Configuration as akl
 use Rattle.akl.specs.Configuration.{Node, or, and, stmt, choice-box, guard, Nodes, nil, cons}
 use Rattle.mem_words.specs.declared.Word.{Word}
 use Rattle.mem_words.specs.declared.Word.the-variants.{End, Inner}
-use Rattle.mem_words.specs.Words.{Small, valueOf}
+use Rattle.mem_words.specs.Words.{valueOf}
 use Rattle.mem_words.specs.Form.{AllSmall}
 use Rattle.mem_sorts.specs.declared.Sort.the-variants.{Store}
 use Rattle.layout.specs.Layout.{vars-words, con-words, stmt-words, clauses-words, program-words}

@@ -12,7 +12,6 @@
 use mathlib.Core.List.{List, [], _∷_, _++_}
 use Prim.Native.Nat.{ℕ, suc, _-_, _/_, _%_}
 use lib.ListN.{length, replicate}
-use Rattle.akl.specs.Configuration.{Config}
 use Rattle.layout.specs.Layout.{program-words}
 use Rattle.mem_words.specs.declared.Word.{Word}
 use Rattle.mem_words.specs.Form.{bytes-of}

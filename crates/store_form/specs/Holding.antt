@@ -1,15 +1,15 @@
 -- When bytes hold a state, and the state that bytes hold. Assumes nothing.
 use mathlib.Core.Path.{_≡_}
 use mathlib.Core.List.{List, [], _∷_}
-use mathlib.Core.Bool.{Bool, true, false, _&&_}
-use mathlib.Core.Option.{Option, some, none}
+use mathlib.Core.Bool.{Bool, true, _&&_}
+use mathlib.Core.Option.{Option, some}
 use Prim.Native.Nat.{ℕ, suc, _*_, _/_, _<_, _≤_}
 use lib.Dec.{T, leb, ltb}
 use lib.ListN.{length, getD, take, drop}
 use Rattle.constraint.specs.Solve.{distinct}
 use Rattle.akl.specs.Base.{all, same, when, _>>=_}
 use Rattle.akl.specs.Limits.{most-query-variables}
-use Rattle.akl.specs.Configuration.{goal, Config}
+use Rattle.akl.specs.Configuration.{goal}
 use Rattle.layout.specs.Reading.{read-program}
 use Rattle.mem_numbers.specs.Numbers.{triples}
 use Rattle.mem_words.specs.declared.Word.{Word}

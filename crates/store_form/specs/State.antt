@@ -1,7 +1,7 @@
 -- What a store holds, and what that means by the definitions. Assumes nothing.
-use mathlib.Core.List.{List, [], _∷_, map}
+use mathlib.Core.List.{List, _∷_, map}
 use mathlib.Core.Bool.{Bool}
-use Prim.Native.Nat.{ℕ, zero, suc, _+_}
+use Prim.Native.Nat.{ℕ, zero, suc}
 use lib.ListN.{length}
 use Rattle.akl.specs.Base.{Name, same, if}
 use Rattle.akl.specs.Syntax.{Program}

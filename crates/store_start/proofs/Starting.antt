@@ -1,13 +1,12 @@
 -- The state at the start of a query has bytes, means the program, the names and the configuration of the definitions, and is well formed
 -- where its parts fit.
 use mathlib.Core.Path.{_≡_, refl, ap, ap₂, sym, _∙_, subst}
-use mathlib.Core.Logic.{_↔_}
 use mathlib.Core.List.{List, [], _∷_, _++_, map}
-use mathlib.Core.Bool.{Bool, _&&_, not}
-use Prim.Native.Nat.{ℕ, zero, suc, _+_, _*_, _/_, _<_, _≤_}
+use mathlib.Core.Bool.{_&&_, not}
+use Prim.Native.Nat.{ℕ, zero, suc, _+_, _*_, _<_, _≤_}
 use native.Mathlib.Omega.{arith}
 use lib.Dec.{T, leb, leb→le}
-use lib.ListN.{length, getD, take, drop, length-map}
+use lib.ListN.{length, take, length-map}
 use Rattle.constraint.proofs.Lists.{and-T}
 use Rattle.akl.specs.Base.{Name, size, range, all, repeats, ok}
 use Rattle.akl.specs.Limits.{program-bytes, most-query-variables}
@@ -22,21 +21,20 @@ use Rattle.accept.proofs.Accepted.{limits-iff}
 use Rattle.texts.proofs.Reading.{read-program-passes, read-query-fits}
 use Rattle.runs.proofs.Start.{start-formed}
 use Rattle.mem_words.specs.declared.Word.{Word}
-use Rattle.mem_words.specs.declared.Word.the-variants.{End, Free, Place, Inner}
-use Rattle.mem_words.specs.Words.{Small}
+use Rattle.mem_words.specs.declared.Word.the-variants.{End, Place, Inner}
 use Rattle.mem_words.specs.Form.{AllSmall}
 use Rattle.mem_sorts.specs.declared.Kind.the-variants.{Or, And, Member}
 use Rattle.mem_sorts.specs.declared.Sort.the-variants.{Locals, Store}
-use Rattle.layout.specs.Layout.{stmt-words, program-words}
+use Rattle.layout.specs.Layout.{program-words}
 use Rattle.read_nodes.specs.Spell.{named}
 use Rattle.store_words.specs.Boxes.{local-words, store-words, node-words}
 use Rattle.store_words.proofs.Places.{stmt-front}
 use Rattle.store_words.proofs.Sizes.{size-length}
 use Rattle.store_texts.proofs.Programs.{program-words-few}
-use Rattle.store_form.specs.Sizes.{most-nodes, most-program-words, part-words, two-bytes}
+use Rattle.store_form.specs.Sizes.{most-program-words}
 use Rattle.store_form.specs.State.{State, table, number-in, names-of, well-formed-state}
 use Rattle.store_form.specs.Form.{rules-words, config-words}
-use Rattle.store_form.specs.Holding.{below, small-word, Fits}
+use Rattle.store_form.specs.Holding.{below, Fits}
 use Rattle.store_form.proofs.Names.{number-named}
 use Rattle.store_form.proofs.Spelt.{all-small}
 use Rattle.store_form.proofs.Lengths.{formed-words}

@@ -1,13 +1,12 @@
 -- The table of names that the reader leaves, cut to its nodes and with nothing at its root: the same names.
-use mathlib.Core.Path.{_≡_, refl, ap, ap₂, sym, _∙_, subst}
-use mathlib.Core.List.{List, [], _∷_, _++_, map}
+use mathlib.Core.Path.{_≡_, refl, ap, sym, _∙_}
+use mathlib.Core.List.{List, [], _∷_, _++_}
 use Prim.Native.Nat.{ℕ, zero, suc, _+_, _/_, _%_, _<_, _≤_}
 use native.Mathlib.Omega.{arith}
 use lib.Dec.{T}
 use lib.ListN.{length, getD, take, drop, length-drop}
 use lib.Seq.{getD-drop, getD-take, length-take-le}
 use Rattle.constraint.specs.Solve.{distinct}
-use Rattle.akl.specs.Base.{Name}
 use Rattle.read_nodes.specs.Spell.{spell, named, Lower, named-step}
 use Rattle.store_form.specs.Holding.{lowered}
 use Rattle.store_form.proofs.Names.{at-lowered, at-distinct}

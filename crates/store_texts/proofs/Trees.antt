@@ -1,19 +1,19 @@
 -- How many words a tree's meaning has, by how many tokens the tree has: at most five words for two tokens, as in `p,p,p`.
 -- Each law takes the words r and the tokens ts that follow.
 use mathlib.Core.List.{List, [], _∷_, _++_, map}
-use Prim.Native.Nat.{ℕ, suc, _+_, _*_, _≤_}
+use Prim.Native.Nat.{ℕ, _+_, _*_, _≤_}
 use native.Mathlib.Omega.{arith}
 use mathlib.Core.Path.{_≡_}
 use lib.ListN.{length, length-map}
 use Rattle.constraint.specs.Constraint.{Con, ctrue, cfail, ceq, capp, mapCon}
-use Rattle.akl.specs.Base.{Name, size}
-use Rattle.akl.specs.Syntax.{Var, Stmt, Clauses, Program}
-use Rattle.akl.specs.Token.{Token, name, variable, sign, open-bracket, close-bracket, comma, full-stop, colon, defines, equals, semicolon, operator}
+use Rattle.akl.specs.Base.{Name}
+use Rattle.akl.specs.Syntax.{Var, Clauses}
+use Rattle.akl.specs.Token.{Token, sign, close-bracket, comma, full-stop, colon, defines, operator}
 use Rattle.akl.specs.Grammar.{Statement, single, joined, Simple, constraint, program, bracket, Bracket, plain, hiding, choosing, Clause, written, Others, end, and-also, Definition}
-use Rattle.akl.specs.Reader.{variable-of, operator-of, statement-of, simple-of, bracket-of, clause-of, others-of, definition-of}
-use Rattle.texts.specs.Printing.{vars-tokens, arguments-tokens, hidden-tokens, label-token, constraint-tokens, statement-tokens, simple-tokens, bracket-tokens, clause-tokens, others-tokens, definition-tokens, program-tokens}
+use Rattle.akl.specs.Reader.{variable-of, statement-of, simple-of, bracket-of, clause-of, others-of, definition-of}
+use Rattle.texts.specs.Printing.{vars-tokens, arguments-tokens, hidden-tokens, constraint-tokens, statement-tokens, simple-tokens, bracket-tokens, clause-tokens, others-tokens, program-tokens}
 use Rattle.mem_words.specs.declared.Word.{Word}
-use Rattle.mem_words.specs.declared.Word.the-variants.{End, Inner}
+use Rattle.mem_words.specs.declared.Word.the-variants.{End}
 use Rattle.layout.specs.Layout.{vars-words, con-words, stmt-words, clauses-words, program-words}
 
 vars-size : (xs : List Var) (r : List Word) → length (vars-words xs r) ≡ length xs + length r

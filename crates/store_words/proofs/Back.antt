@@ -1,5 +1,5 @@
 -- The words of a configuration read back as it, with the words behind it left.
-use mathlib.Core.Path.{_≡_, refl, ap, sym, _∙_}
+use mathlib.Core.Path.{_≡_, refl, ap, _∙_}
 use mathlib.Core.List.{List, [], _∷_, map}
 use mathlib.Core.Option.{Option, some}
 use Prim.Native.Nat.{ℕ, zero, suc, _+_, _≤_}
@@ -8,12 +8,11 @@ use lib.ListN.{length}
 use Rattle.constraint.specs.Constraint.{Con, ctrue, cfail, ceq, capp, mapCon}
 use Rattle.constraint.specs.Constraint as constraint
 use Rattle.akl.specs.Base.{Name, _>>=_}
-use Rattle.akl.specs.Syntax.{Var, number, level, Op, wait, cond, commit, Stmt, atom}
+use Rattle.akl.specs.Syntax.{Var, number, Op, wait, cond, commit, Stmt, atom}
 use Rattle.akl.specs.Configuration as akl
 use Rattle.akl.specs.Configuration.{goal, member, guarded, Node, or, and, stmt, choice-box, guard, Nodes, nil, cons}
 use Rattle.mem_words.specs.declared.Word.{Word}
 use Rattle.mem_words.specs.declared.Word.the-variants.{End, Place, Inner}
-use Rattle.mem_sorts.specs.declared.Kind.the-variants.{Or, And, Guarded, Member, Wait, Cond, Commit}
 use Rattle.mem_sorts.specs.declared.Sort.the-variants.{Locals, Store}
 use Rattle.layout.specs.Layout.{con-words, stmt-words}
 use Rattle.layout.specs.Reading.{Read, an-end, an-opening, read-stmt}

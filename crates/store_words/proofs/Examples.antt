@@ -7,16 +7,15 @@ use lib.ListN.{length}
 use Rattle.constraint.specs.Constraint.{cfail, ceq, capp, ctrue}
 use Rattle.akl.specs.Base.{Name, bytes, Result, refused, ok}
 use Rattle.akl.specs.Computed.{everything}
-use Rattle.akl.specs.Syntax.{Program, number, level, wait, cond, commit, Stmt, atom, call}
-use Rattle.akl.specs.Reader.{Query, read-program, read-query}
-use Rattle.akl.specs.Configuration as akl
-use Rattle.akl.specs.Configuration.{goal, member, Node, or, and, stmt, choice-box, guard, nil, cons, one, Config, start-config}
+use Rattle.akl.specs.Syntax.{Program, number, wait, cond, commit, atom, call}
+use Rattle.akl.specs.Reader.{read-program, read-query}
+use Rattle.akl.specs.Configuration.{goal, member, Node, or, and, stmt, choice-box, guard, nil, cons, one, start-config}
 use Rattle.akl.specs.Parts.{parts, statement-parts}
 use Rattle.mem_words.specs.declared.Word.{Word}
 use Rattle.mem_words.specs.declared.Word.the-variants.{End, Free, Level, Num, Place, Inner, Bad}
 use Rattle.mem_sorts.specs.declared.Kind.the-variants.{Or, And, Guarded, Member, Wait, Cond, Commit}
 use Rattle.mem_sorts.specs.declared.Sort.the-variants.{Locals, Store, True, Fail, Eq, App, Call}
-use Rattle.layout.specs.Layout.{var-word, vars-words, ask, con-words, stmt-words}
+use Rattle.layout.specs.Layout.{var-word, vars-words, con-words, stmt-words}
 use Rattle.layout.specs.Reading.{an-end, a-number, a-var, an-opening, vars-from, inside, stmt-from, read-stmt}
 use Rattle.store_words.specs.Boxes.{box-kind, local-words, store-words, node-words}
 use Rattle.store_words.specs.Reading.{a-place, locals-in, store-in, locals-from, a-free, all-free, free-con, a-con, some-cons, cons-from, read-locals, read-cons, opened-node, some-nodes, node-from, read-node}

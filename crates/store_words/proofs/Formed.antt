@@ -1,6 +1,6 @@
 -- What passes 3 has no list of more than 8 arguments: so a well-formed configuration has at most 14 words for each part.
 use mathlib.Core.List.{List, [], _∷_}
-use mathlib.Core.Bool.{Bool, true, false, _&&_, _||_}
+use mathlib.Core.Bool.{Bool, true, _&&_, _||_}
 use Prim.Native.Nat.{ℕ, _+_, _*_, _≤_}
 use native.Mathlib.Omega.{arith}
 use lib.Dec.{T, leb, leb→le}
@@ -12,11 +12,9 @@ use Rattle.akl.specs.Base.{Name, size, all}
 use Rattle.akl.specs.Limits.{most-arguments, most-depth}
 use Rattle.akl.specs.Syntax.{Var, Stmt, atom, call, comp, hide, choice, Clauses, no-more, clause, Program, defined}
 use Rattle.akl.specs.Configuration.{Kind, Node, or, and, stmt, choice-box, guard, Nodes, nil, cons, Config}
-use Rattle.akl.specs.Parts.{parts}
 use Rattle.akl.specs.Stability.{is-some}
 use Rattle.akl.specs.WellFormed.{spelled-name, spelled-digits, variable-fits, few, constraint-fits, statement-fits, clauses-fit, some-clause, depth, statement-passes, stored-fits, statements-pass, statements-pass-all}
 use Rattle.theory.specs.Formed.{Formed}
-use Rattle.mem_words.specs.declared.Word.{Word}
 use Rattle.store_words.specs.Boxes.{node-words}
 use Rattle.store_words.specs.Tables.{FewCon, FewStore, Few, FewClauses, FewNode, FewNodes}
 use Rattle.store_words.proofs.Sizes.{size-length, node-size}

@@ -4,16 +4,16 @@ use Prim.Native.Nat.{ℕ}
 use Rattle.constraint.specs.Constraint.{mapCon}
 use Rattle.constraint.specs.Constraint as constraint
 use Rattle.akl.specs.Base.{Name}
-use Rattle.akl.specs.Syntax.{number, atom, wait, cond, commit}
+use Rattle.akl.specs.Syntax.{number, atom}
 use Rattle.akl.specs.Configuration as akl
 use Rattle.akl.specs.Configuration.{Node, or, and, stmt, choice-box, guard, Nodes, nil, cons}
 use Rattle.mem_words.specs.declared.Word.{Word}
 use Rattle.mem_words.specs.declared.Word.the-variants.{End, Inner}
 use Rattle.mem_sorts.specs.declared.Sort.the-variants.{Store}
-use Rattle.layout.specs.Layout.{stmt-words, con-words}
+use Rattle.layout.specs.Layout.{stmt-words}
 use Rattle.layout.specs.Tables.{Numbered}
 use Rattle.layout.proofs.Known.{stmt-known}
-use Rattle.store_words.specs.Boxes.{box-kind, local-words, store-words, node-words, nodes-words}
+use Rattle.store_words.specs.Boxes.{local-words, store-words, node-words, nodes-words}
 use Rattle.store_words.specs.Tables.{SpeltStore, SpeltNode, SpeltNodes}
 
 pub local-known : (num : Name → ℕ) (spell : ℕ → Name) (xs : List ℕ) (r : List Word) → Numbered num spell r → Numbered num spell (local-words xs r)

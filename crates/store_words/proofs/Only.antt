@@ -9,7 +9,7 @@ use Rattle.constraint.specs.Constraint as constraint
 use Rattle.akl.specs.Base.{Name, _>>=_}
 use Rattle.akl.specs.Syntax.{Var, number, level, Op, wait, cond, commit, Stmt, atom, call, comp, hide, choice}
 use Rattle.akl.specs.Configuration as akl
-use Rattle.akl.specs.Configuration.{goal, member, guarded, Node, or, and, stmt, choice-box, guard, Nodes, nil, cons}
+use Rattle.akl.specs.Configuration.{goal, member, guarded, Node, choice-box, Nodes}
 use Rattle.mem_words.specs.declared.Word.{Word}
 use Rattle.mem_words.specs.declared.Word.the-variants.{End, Free, Level, Num, Place, Inner, Bad}
 use Rattle.mem_sorts.specs.declared.Kind.{Kind}
@@ -18,7 +18,7 @@ use Rattle.mem_sorts.specs.declared.Sort.{Sort}
 use Rattle.mem_sorts.specs.declared.Sort.the-variants.{Locals, Store, True, Fail, Eq, App, Call, Comp, Hide, Clause, AskWait, AskCond, AskCommit}
 use Rattle.layout.specs.Layout.{con-words, stmt-words}
 use Rattle.layout.specs.Reading.{Read, an-end, an-opening, stmt-from, read-stmt}
-use Rattle.layout.specs.Tables.{SpeltCon, Spelt, Numbered}
+use Rattle.layout.specs.Tables.{Spelt, Numbered}
 use Rattle.layout.proofs.Parts.{Good, bind, taken, IsEnd, IsOpening, end-good, opening-good, behind}
 use Rattle.layout.proofs.Only.{stmt-laid, stmt-spelt}
 use Rattle.store_words.specs.Boxes.{box-kind, local-words, store-words, node-words, nodes-words}

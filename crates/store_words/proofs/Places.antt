@@ -1,23 +1,22 @@
 -- A configuration's words around a node: what is before it, its words, what is behind. Place p is the p-th `Place` word.
-use mathlib.Core.Path.{_≡_, refl, ap, ap₂, sym, _∙_, subst}
+use mathlib.Core.Path.{_≡_, refl, ap, ap₂, sym, _∙_}
 use mathlib.Core.List.{List, [], _∷_, _++_}
-use mathlib.Core.Option.{some}
-use Prim.Native.Nat.{ℕ, zero, suc, _+_, _<_}
+use mathlib.Core.Option.{Option, some, none}
+use Prim.Native.Nat.{ℕ, zero, suc, _+_, _≤_}
 use native.Mathlib.Omega.{arith}
-use lib.ListN.{length, length-append}
+use lib.ListN.{length}
 use Rattle.constraint.specs.Constraint.{Con, ctrue, cfail, ceq, capp, mapCon}
 use Rattle.constraint.specs.Constraint as constraint
-use Rattle.akl.specs.Base.{Name}
-use Rattle.akl.specs.Syntax.{Var, number, level, wait, cond, commit, Stmt, atom, call, comp, hide, choice, Clauses, no-more, clause}
+use Rattle.akl.specs.Base.{Name, nth, size}
+use Rattle.akl.specs.Syntax.{Var, number, level, Stmt, atom, call, comp, hide, choice, Clauses, no-more, clause}
 use Rattle.akl.specs.Configuration as akl
 use Rattle.akl.specs.Configuration.{Node, or, and, stmt, choice-box, guard, Nodes, nil, cons, _+n_, Ctx, top, in-or, in-and, in-choice, in-guard, plug, Config}
-use Rattle.akl.specs.Places.{at, place, count, counts, place-number}
-use Rattle.accept.proofs.PlaceLaws.{place-numbered, place-of, place-whole}
-use Rattle.accept.proofs.EffectSound.{whole}
+use Rattle.akl.specs.Places.{at, place, places, count, counts, place-number}
+use Rattle.accept.proofs.PlaceLaws.{place-numbered, place-whole, size-places}
 use Rattle.mem_words.specs.declared.Word.{Word}
 use Rattle.mem_words.specs.declared.Word.the-variants.{End, Free, Level, Num, Place, Inner, Bad}
 use Rattle.mem_sorts.specs.declared.Kind.{Kind}
-use Rattle.mem_sorts.specs.declared.Kind.the-variants.{Or, And, Guarded, Member, Wait, Cond, Commit}
+use Rattle.mem_sorts.specs.declared.Kind.the-variants.{Or, And, Guarded, Member}
 use Rattle.mem_sorts.specs.declared.Sort.the-variants.{Locals, Store, App, Call, Comp, Hide, Clause}
 use Rattle.layout.specs.Layout.{ask, var-word, vars-words, con-words, stmt-words, clauses-words}
 use Rattle.store_words.specs.Boxes.{box-kind, local-words, store-words, node-words, nodes-words}
@@ -230,3 +229,28 @@ place-words num c p χ n r e =
     let a : node-words num (c .root) r ≡ before num χ [] ++ node-words num n (after num χ r) = ap (λ (g : Node akl.goal). node-words num g r) (sym (place-whole c p (at χ n) e)) ∙ plug-words num χ n r ∙ before-front num χ [] (node-words num n (after num χ r)) in
     let b : places-in (before num χ []) ≡ p = omega (arith, before-places num χ [], place-numbered c p χ n e) in
     (a, ap₂ place-at (a ∙ ap (λ (u : List Word). before num χ [] ++ u) (w .1)) (sym b) ∙ place-first (before num χ []) (kind-of n) (w .0), b)
+
+-- Where there are not so many places, the search ends behind the words.
+pub place-past : (ws : List Word) (p : ℕ) → places-in ws ≤ p → place-at ws p ≡ length ws
+unfolding place-at places-in
+place-past [] p h = refl
+place-past (End ∷ r) p h = ap suc (place-past r p h)
+place-past (Free x ∷ r) p h = ap suc (place-past r p h)
+place-past (Level l ∷ r) p h = ap suc (place-past r p h)
+place-past (Num n ∷ r) p h = ap suc (place-past r p h)
+place-past (Place k ∷ r) zero h = absurd (omega arith)
+place-past (Place k ∷ r) (suc p) h = ap suc (place-past r p (omega arith))
+place-past (Inner s ∷ r) p h = ap suc (place-past r p h)
+place-past (Bad ∷ r) p h = ap suc (place-past r p h)
+
+nth-past : {A : Type 0} (l : List A) (p : ℕ) → nth l p ≡ none → size l ≤ p
+unfolding nth size
+nth-past [] p e = omega arith
+nth-past (x ∷ l) zero e = absurd (let z : _≡_ {A = ℕ} 1 0 = ap (λ (o : Option _). elim o as (λ v. ℕ) [ none ↦ 0 | some y ↦ 1 ]) e in omega arith)
+nth-past (x ∷ l) (suc p) e = let h = nth-past l p e in omega (arith, h)
+
+pub no-place : (num : Name → ℕ) (c : Config) (p : ℕ) → place c p ≡ none → place-at (node-words num (c .root) []) p ≡ length (node-words num (c .root) [])
+unfolding place places-in
+no-place num c p e =
+    let h = nth-past (places (c .root) top) p e in
+    place-past (node-words num (c .root) []) p (omega (arith, h, size-places (c .root) top, node-places num (c .root) []))

@@ -1,7 +1,7 @@
 -- How many words a configuration has: at most 14 for each part where no list of arguments is longer than 8. A member that is
 -- one atom with 8 arguments has 14 (two of its own, 12 of the atom) and is one part, so that no less would do. A local is one word.
-use mathlib.Core.List.{List, [], _∷_, map}
-use Prim.Native.Nat.{ℕ, suc, _+_, _*_, _≤_}
+use mathlib.Core.List.{List, [], _∷_}
+use Prim.Native.Nat.{ℕ, _+_, _*_, _≤_}
 use native.Mathlib.Omega.{arith}
 use mathlib.Core.Path.{_≡_, refl}
 use lib.ListN.{length, length-map}
@@ -15,7 +15,7 @@ use Rattle.mem_words.specs.declared.Word.{Word}
 use Rattle.mem_words.specs.declared.Word.the-variants.{End, Inner}
 use Rattle.mem_sorts.specs.declared.Sort.the-variants.{Store}
 use Rattle.layout.specs.Layout.{vars-words, con-words, stmt-words, clauses-words}
-use Rattle.store_words.specs.Boxes.{local-words, store-words, node-words, nodes-words}
+use Rattle.store_words.specs.Boxes.{store-words, node-words, nodes-words}
 use Rattle.store_words.specs.Tables.{FewCon, FewStore, Few, FewClauses, FewNode, FewNodes}
 use Rattle.store_words.proofs.Back.{local-long}
 

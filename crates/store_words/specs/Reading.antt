@@ -15,7 +15,7 @@ use Rattle.mem_sorts.specs.declared.Kind.{Kind}
 use Rattle.mem_sorts.specs.declared.Kind.the-variants.{Or, And, Guarded, Member, Wait, Cond, Commit}
 use Rattle.mem_sorts.specs.declared.Sort.{Sort}
 use Rattle.mem_sorts.specs.declared.Sort.the-variants.{Locals, Store, True, Fail, Eq, App, Call, Comp, Hide, Clause, AskWait, AskCond, AskCommit}
-use Rattle.layout.specs.Reading.{Read, an-end, an-opening, stmt-from, read-stmt}
+use Rattle.layout.specs.Reading.{Read, an-end, an-opening, read-stmt}
 
 -- the kind of a place that begins, and the words behind its first
 unfoldable pub a-place : List Word → Read Kind
