@@ -9,13 +9,12 @@ use lib.Dec.{T, leb, ltb, ltb→lt}
 use Rattle.constraint.specs.Constraint.{Con, ctrue, cfail, ceq, capp, mapCon, vars, varsAll}
 use Rattle.constraint.specs.Constraint as constraint
 use Rattle.constraint.proofs.Lists.{and-T, In-append}
-use Rattle.akl.specs.Base.{Name, size, all}
+use Rattle.akl.specs.Base.{is-some, Name, size, all}
 use Rattle.akl.specs.Limits.{most-depth}
 use Rattle.akl.specs.Syntax.{Var, number, level, Stmt, atom, call, comp, hide, choice, Clauses, no-more, clause, Program, defined}
 use Rattle.akl.specs.Configuration as akl
 use Rattle.akl.specs.Configuration.{Node, or, and, stmt, choice-box, guard, Nodes, nil, cons, Config}
 use Rattle.akl.specs.Parts.{statement-parts, clauses-parts, parts, parts-all}
-use Rattle.akl.specs.Stability.{is-some}
 use Rattle.akl.specs.WellFormed.{spelled-name, spelled-digits, variable-fits, few, constraint-fits, statement-fits, clauses-fit, some-clause, depth, statement-passes, stored-fits, statements-pass, statements-pass-all, variable-numbers, list-numbers, constraint-numbers, numbers, clauses-numbers, all-numbers, all-numbers-in}
 use Rattle.theory.specs.Scope.{Below}
 use Rattle.theory.specs.Formed.{Formed}

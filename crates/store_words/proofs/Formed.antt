@@ -8,11 +8,10 @@ use lib.ListN.{length}
 use Rattle.constraint.specs.Constraint.{Con, ctrue, cfail, ceq, capp}
 use Rattle.constraint.specs.Constraint as constraint
 use Rattle.constraint.proofs.Lists.{and-T}
-use Rattle.akl.specs.Base.{Name, size, all}
+use Rattle.akl.specs.Base.{is-some, Name, size, all}
 use Rattle.akl.specs.Limits.{most-arguments, most-depth}
 use Rattle.akl.specs.Syntax.{Var, Stmt, atom, call, comp, hide, choice, Clauses, no-more, clause, Program, defined}
 use Rattle.akl.specs.Configuration.{Kind, Node, or, and, stmt, choice-box, guard, Nodes, nil, cons, Config}
-use Rattle.akl.specs.Stability.{is-some}
 use Rattle.akl.specs.WellFormed.{spelled-name, spelled-digits, variable-fits, few, constraint-fits, statement-fits, clauses-fit, some-clause, depth, statement-passes, stored-fits, statements-pass, statements-pass-all}
 use Rattle.theory.specs.Formed.{Formed}
 use Rattle.store_words.specs.Boxes.{node-words}
