@@ -4,8 +4,8 @@
 use mathlib.Core.Path.{_≡_}
 use mathlib.Core.Logic.{_⊎_}
 use mathlib.Core.List.{List, [], map}
-use Prim.Native.Nat.{ℕ, _+_, _*_, _≤_, _<_}
-use lib.ListN.{length, take, replicate}
+use Prim.Native.Nat.{ℕ, _+_, _*_, _/_, _≤_, _<_}
+use lib.ListN.{length, getD, take, replicate}
 use Rattle.akl.specs.Base.{Name, refused, ok}
 use Rattle.akl.specs.Syntax.{Program}
 use Rattle.akl.specs.Reader.{Query, read-program, read-query}
@@ -26,6 +26,11 @@ pub record Loaded (text query N′ D′ : List ℕ) (R′ : List Word) (Q′ : L
   pub reads-query : read-query program query ≡ ok goal
   -- the counts are within the tables
   pub room : (d ≤ length D′) × (a ≤ length R′) × (v ≤ length Q′) × (b ≤ length G′) × (m ≤ length N′)
+  -- the names are a trie: there is a root, and a parent is lower
+  pub root : 1 ≤ m
+  pub parents : (i : ℕ) → 0 < i → i < m → getD N′ i 0 / 256 < i
+  -- the numbers of the query's variables are numbers of names
+  pub used : (i : ℕ) → i < v → getD Q′ i 0 < m
   -- numbers of names below m and names are one-to-one
   pub apart : (i j : ℕ) → i < m → j < m → named N′ i ≡ named N′ j → i ≡ j
   pub heads : heads (named N′) (take d D′) ≡ map (λ d. (d .name, d .arity)) program

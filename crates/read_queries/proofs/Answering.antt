@@ -96,6 +96,7 @@ module _ {text K N H S T K′ N′ H′ S′ : List ℕ} {n k m : ℕ} {D L B₁
               grown = subst (Grown N n N′) (sym (x .answer .0)) (a .answer .entries .table .grown);
               few = x .answer .1;
               inside = x .answer .2;
+              used = λ g h. omega (arith, x .answer .4 g h, l .binds, x .answer .0);
               says = λ P h. (
                 record { variables = query-variables t; statement = statement-of t (query-variables t) [] },
                 read-as P h none (x .answer .3 (named N′) (numbered (named N′) m) t (lent-reserved a l) (lent-numbers a l) (lent-parses a l) .none-due),

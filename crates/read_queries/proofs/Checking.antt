@@ -177,6 +177,7 @@ module _ {L B S Q D : List ℕ} {O : List Word} {B₁ B′ S′ Q′ : List ℕ}
                 variables = l .variables;
                 words = c .words ∙ ap tight (sym whole) ∙ sym (append-nil (tight (seg O′ 0 k))) ∙ l .words .words [];
               },
+          λ i g. omega (arith, r .used i g, z .long),
         );
       }
     where

@@ -7,7 +7,7 @@ use mathlib.Core.Bool.{true}
 use mathlib.Core.Option.{some, none}
 use Prim.Native.Nat.{ℕ, _+_, _*_, _/_, _≤_, _<_}
 use lib.Dec.{ltb}
-use lib.ListN.{length, take}
+use lib.ListN.{length, getD, take}
 use Rattle.constraint.specs.Constraint.{In}
 use Rattle.akl.specs.Base.{Name, size, least}
 use Rattle.akl.specs.Limits.{most-query-variables}
@@ -47,7 +47,7 @@ module _ (L B S Q D : List ℕ) (O : List Word) (names : ℕ) where
     pub words : take k O′ ≡ stmt-words num (statement-of t (query-variables t) []) []
 
   abbrev pub Checked : List ℕ → List Word → Queried → Type 0
-  Checked Q′ O′ (Read v k m) = (m ≡ names) × (v ≤ length Q′) × (k ≤ length O′) × Whole (λ w num t. Fine Q′ O′ v k w num t)
+  Checked Q′ O′ (Read v k m) = (m ≡ names) × (v ≤ length Q′) × (k ≤ length O′) × Whole (λ w num t. Fine Q′ O′ v k w num t) × ((i : ℕ) → i < v → getD Q′ i 0 < length B)
   Checked Q′ O′ (Refused r) = Whole (λ w num t. least (due w t) ≡ some (numberOf r))
   Checked Q′ O′ Short = (length O < 4 * length L + 8) ⊎ (length S < length L)
 

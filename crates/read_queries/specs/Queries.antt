@@ -3,7 +3,7 @@
 use mathlib.Core.Path.{_≡_}
 use mathlib.Core.List.{List, [], map}
 use Prim.Native.Nat.{ℕ, _+_, _*_, _/_, _≤_, _<_}
-use lib.ListN.{length, take}
+use lib.ListN.{length, getD, take}
 use Rattle.constraint.specs.Constraint.{In}
 use Rattle.akl.specs.Base.{Name, refused, ok}
 use Rattle.akl.specs.Limits.{query-bytes}
@@ -37,6 +37,8 @@ pub record Taken (text N : List ℕ) (n : ℕ) (D N′ H′ S′ : List ℕ) (O�
   pub grown : Grown N n N′ m
   pub few : v ≤ length Q′
   pub inside : k ≤ length O′
+  -- the numbers of its variables are numbers of names
+  pub used : (i : ℕ) → i < v → getD Q′ i 0 < m
   pub says : (P : Program) → Heads N D P → (q : Query) × (read-query P text ≡ ok q) × Says N′ O′ Q′ v k m q
 
 -- sizes at which no table is too short: an entry for each byte, 4 words for each and 8

@@ -1,0 +1,1 @@
+// No code: what the reader of texts leaves makes the state at the start.
