@@ -1,0 +1,178 @@
+-- What a write to one table leaves of the others. Assumes nothing.
+use mathlib.Core.Path.{_≡_, refl, ap, sym, _∙_}
+use mathlib.Core.List.{List}
+use Prim.Native.Nat.{ℕ, _+_, _-_, _*_, _/_, _≤_, _<_}
+use native.Mathlib.Omega.{arith}
+use lib.ListN.{length}
+use Rattle.mem_numbers.specs.Numbers.{shorts, triples, longs}
+use Rattle.mem_numbers.specs.Stored.{Stored}
+use Rattle.mem_words.specs.Words.{words}
+use Rattle.mem_parts.specs.Parts.{cut, Outside, outside-wide, cut-left, cut-right, CanGet, CanSet, Set2, Set3, Set4}
+use Rattle.work_tables.specs.Tables.{marksOf, stackOf, donesOf, cellsOf, varsOf, oldsOf, posOf, logOf, Laid, Searched, Moved, Noted, CanRead, CanWrite, length-mark, length-stack, length-done, length-cell, length-var, length-old, length-pos}
+
+-- one table is written, the others of its group are as they were
+pub record PutMark (L : List ℕ) (i v : ℕ) (X : List ℕ) : Type 0 where
+  pub mark : Stored (marksOf L) i v (marksOf X)
+  pub stack : stackOf X ≡ stackOf L
+  pub done : donesOf X ≡ donesOf L
+  pub rest : Searched L X
+
+pub record PutStack (L : List ℕ) (i v : ℕ) (X : List ℕ) : Type 0 where
+  pub mark : marksOf X ≡ marksOf L
+  pub stack : Stored (stackOf L) i v (stackOf X)
+  pub done : donesOf X ≡ donesOf L
+  pub rest : Searched L X
+
+pub record PutDone (L : List ℕ) (i v : ℕ) (X : List ℕ) : Type 0 where
+  pub mark : marksOf X ≡ marksOf L
+  pub stack : stackOf X ≡ stackOf L
+  pub done : Stored (donesOf L) i v (donesOf X)
+  pub rest : Searched L X
+
+pub record PutCell (L : List ℕ) (i v : ℕ) (X : List ℕ) : Type 0 where
+  pub cell : Stored (cellsOf L) i v (cellsOf X)
+  pub var : varsOf X ≡ varsOf L
+  pub old : oldsOf X ≡ oldsOf L
+  pub rest : Moved L X
+
+pub record PutVar (L : List ℕ) (i v : ℕ) (X : List ℕ) : Type 0 where
+  pub cell : cellsOf X ≡ cellsOf L
+  pub var : Stored (varsOf L) i v (varsOf X)
+  pub old : oldsOf X ≡ oldsOf L
+  pub rest : Moved L X
+
+pub record PutOld (L : List ℕ) (i v : ℕ) (X : List ℕ) : Type 0 where
+  pub cell : cellsOf X ≡ cellsOf L
+  pub var : varsOf X ≡ varsOf L
+  pub old : Stored (oldsOf L) i v (oldsOf X)
+  pub rest : Moved L X
+
+pub record PutPos (L : List ℕ) (i v : ℕ) (X : List ℕ) : Type 0 where
+  pub cell : cellsOf X ≡ cellsOf L
+  pub var : varsOf X ≡ varsOf L
+  pub old : oldsOf X ≡ oldsOf L
+  pub pos : Stored (posOf L) i v (posOf X)
+  pub log : (k : ℕ) → logOf k X ≡ logOf k L
+  pub rest : Noted L X
+
+-- what the accessors ask of the parts, and what they give
+pub get-mark : {L : List ℕ} {i : ℕ} → CanRead L 2048 i → CanGet 0 4096 L (shorts (cut 0 4096 L)) i
+unfolding marksOf
+get-mark h = record { le = omega arith; fits = omega (arith, h .laid .long); inside = omega (arith, h .inside, length-mark (h .laid)) }
+
+pub set-mark : {L : List ℕ} {i v : ℕ} → CanWrite L 2048 i 65536 v → CanSet 0 4096 L (shorts (cut 0 4096 L)) i 65536 v
+unfolding marksOf
+set-mark h = record { le = omega arith; fits = omega (arith, h .laid .long); inside = omega (arith, h .inside, length-mark (h .laid)); small = h .small }
+
+pub put-mark : {L X : List ℕ} {i v : ℕ} → Laid L → Set2 0 4096 L i v X → PutMark L i v X
+unfolding marksOf stackOf donesOf
+put-mark h s = record {
+  mark = s .part;
+  stack = ap shorts (cut-right 4096 8192 (omega arith) (s .rest));
+  done = ap longs (cut-right 8192 16384 (omega arith) (s .rest));
+  rest = outside-wide 0 16384 (omega arith) (omega arith) (s .rest);
+}
+
+pub get-stack : {L : List ℕ} {i : ℕ} → CanRead L 2048 i → CanGet 4096 8192 L (shorts (cut 4096 8192 L)) i
+unfolding stackOf
+get-stack h = record { le = omega arith; fits = omega (arith, h .laid .long); inside = omega (arith, h .inside, length-stack (h .laid)) }
+
+pub set-stack : {L : List ℕ} {i v : ℕ} → CanWrite L 2048 i 65536 v → CanSet 4096 8192 L (shorts (cut 4096 8192 L)) i 65536 v
+unfolding stackOf
+set-stack h = record { le = omega arith; fits = omega (arith, h .laid .long); inside = omega (arith, h .inside, length-stack (h .laid)); small = h .small }
+
+pub put-stack : {L X : List ℕ} {i v : ℕ} → Laid L → Set2 4096 8192 L i v X → PutStack L i v X
+unfolding marksOf stackOf donesOf
+put-stack h s = record {
+  mark = ap shorts (cut-left 0 4096 (omega arith) (omega arith) (omega (arith, h .long)) (s .rest));
+  stack = s .part;
+  done = ap longs (cut-right 8192 16384 (omega arith) (s .rest));
+  rest = outside-wide 0 16384 (omega arith) (omega arith) (s .rest);
+}
+
+pub get-done : {L : List ℕ} {i : ℕ} → CanRead L 2048 i → CanGet 8192 16384 L (longs (cut 8192 16384 L)) i
+unfolding donesOf
+get-done h = record { le = omega arith; fits = omega (arith, h .laid .long); inside = omega (arith, h .inside, length-done (h .laid)) }
+
+pub set-done : {L : List ℕ} {i v : ℕ} → CanWrite L 2048 i 4294967296 v → CanSet 8192 16384 L (longs (cut 8192 16384 L)) i 4294967296 v
+unfolding donesOf
+set-done h = record { le = omega arith; fits = omega (arith, h .laid .long); inside = omega (arith, h .inside, length-done (h .laid)); small = h .small }
+
+pub put-done : {L X : List ℕ} {i v : ℕ} → Laid L → Set4 8192 16384 L i v X → PutDone L i v X
+unfolding marksOf stackOf donesOf
+put-done h s = record {
+  mark = ap shorts (cut-left 0 4096 (omega arith) (omega arith) (omega (arith, h .long)) (s .rest));
+  stack = ap shorts (cut-left 4096 8192 (omega arith) (omega arith) (omega (arith, h .long)) (s .rest));
+  done = s .part;
+  rest = outside-wide 0 16384 (omega arith) (omega arith) (s .rest);
+}
+
+pub get-cell : {L : List ℕ} {i : ℕ} → CanRead L 65536 i → CanGet 16384 212992 L (triples (cut 16384 212992 L)) i
+unfolding cellsOf
+get-cell h = record { le = omega arith; fits = omega (arith, h .laid .long); inside = omega (arith, h .inside, length-cell (h .laid)) }
+
+pub set-cell : {L : List ℕ} {i v : ℕ} → CanWrite L 65536 i 16777216 v → CanSet 16384 212992 L (triples (cut 16384 212992 L)) i 16777216 v
+unfolding cellsOf
+set-cell h = record { le = omega arith; fits = omega (arith, h .laid .long); inside = omega (arith, h .inside, length-cell (h .laid)); small = h .small }
+
+pub put-cell : {L X : List ℕ} {i v : ℕ} → Laid L → Set3 16384 212992 L i v X → PutCell L i v X
+unfolding cellsOf varsOf oldsOf
+put-cell h s = record {
+  cell = s .part;
+  var = ap shorts (cut-right 212992 245760 (omega arith) (s .rest));
+  old = ap triples (cut-right 245760 294912 (omega arith) (s .rest));
+  rest = outside-wide 16384 294912 (omega arith) (omega arith) (s .rest);
+}
+
+pub get-var : {L : List ℕ} {i : ℕ} → CanRead L 16384 i → CanGet 212992 245760 L (shorts (cut 212992 245760 L)) i
+unfolding varsOf
+get-var h = record { le = omega arith; fits = omega (arith, h .laid .long); inside = omega (arith, h .inside, length-var (h .laid)) }
+
+pub set-var : {L : List ℕ} {i v : ℕ} → CanWrite L 16384 i 65536 v → CanSet 212992 245760 L (shorts (cut 212992 245760 L)) i 65536 v
+unfolding varsOf
+set-var h = record { le = omega arith; fits = omega (arith, h .laid .long); inside = omega (arith, h .inside, length-var (h .laid)); small = h .small }
+
+pub put-var : {L X : List ℕ} {i v : ℕ} → Laid L → Set2 212992 245760 L i v X → PutVar L i v X
+unfolding cellsOf varsOf oldsOf
+put-var h s = record {
+  cell = ap triples (cut-left 16384 212992 (omega arith) (omega arith) (omega (arith, h .long)) (s .rest));
+  var = s .part;
+  old = ap triples (cut-right 245760 294912 (omega arith) (s .rest));
+  rest = outside-wide 16384 294912 (omega arith) (omega arith) (s .rest);
+}
+
+pub get-old : {L : List ℕ} {i : ℕ} → CanRead L 16384 i → CanGet 245760 294912 L (triples (cut 245760 294912 L)) i
+unfolding oldsOf
+get-old h = record { le = omega arith; fits = omega (arith, h .laid .long); inside = omega (arith, h .inside, length-old (h .laid)) }
+
+pub set-old : {L : List ℕ} {i v : ℕ} → CanWrite L 16384 i 16777216 v → CanSet 245760 294912 L (triples (cut 245760 294912 L)) i 16777216 v
+unfolding oldsOf
+set-old h = record { le = omega arith; fits = omega (arith, h .laid .long); inside = omega (arith, h .inside, length-old (h .laid)); small = h .small }
+
+pub put-old : {L X : List ℕ} {i v : ℕ} → Laid L → Set3 245760 294912 L i v X → PutOld L i v X
+unfolding cellsOf varsOf oldsOf
+put-old h s = record {
+  cell = ap triples (cut-left 16384 212992 (omega arith) (omega arith) (omega (arith, h .long)) (s .rest));
+  var = ap shorts (cut-left 212992 245760 (omega arith) (omega arith) (omega (arith, h .long)) (s .rest));
+  old = s .part;
+  rest = outside-wide 16384 294912 (omega arith) (omega arith) (s .rest);
+}
+
+pub get-pos : {L : List ℕ} {i : ℕ} → CanRead L 2048 i → CanGet 294912 303104 L (longs (cut 294912 303104 L)) i
+unfolding posOf
+get-pos h = record { le = omega arith; fits = omega (arith, h .laid .long); inside = omega (arith, h .inside, length-pos (h .laid)) }
+
+pub set-pos : {L : List ℕ} {i v : ℕ} → CanWrite L 2048 i 4294967296 v → CanSet 294912 303104 L (longs (cut 294912 303104 L)) i 4294967296 v
+unfolding posOf
+set-pos h = record { le = omega arith; fits = omega (arith, h .laid .long); inside = omega (arith, h .inside, length-pos (h .laid)); small = h .small }
+
+pub put-pos : {L X : List ℕ} {i v : ℕ} → Laid L → Set4 294912 303104 L i v X → PutPos L i v X
+unfolding cellsOf varsOf oldsOf posOf logOf
+put-pos h s = record {
+  cell = ap triples (cut-left 16384 212992 (omega arith) (omega arith) (omega (arith, h .long)) (s .rest));
+  var = ap shorts (cut-left 212992 245760 (omega arith) (omega arith) (omega (arith, h .long)) (s .rest));
+  old = ap triples (cut-left 245760 294912 (omega arith) (omega arith) (omega (arith, h .long)) (s .rest));
+  pos = s .part;
+  log = λ k. ap words (cut-right 303104 (303104 + 3 * k) (omega arith) (s .rest));
+  rest = outside-wide 16384 303104 (omega arith) (omega arith) (s .rest);
+}
