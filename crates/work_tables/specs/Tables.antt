@@ -15,7 +15,8 @@ use mathlib.Core.Path.{_≡_, refl, ap, sym, _∙_}
 use mathlib.Core.List.{List}
 use Prim.Native.Nat.{ℕ, _+_, _-_, _*_, _/_, _≤_, _<_}
 use native.Mathlib.Omega.{arith}
-use lib.ListN.{length}
+use lib.ListN.{length, getD}
+use Rattle.mem_words.specs.declared.Word.the-variants.{Bad}
 use Rattle.mem_numbers.specs.Numbers.{shorts, triples, longs, length-shorts, length-triples, length-longs}
 use Rattle.mem_words.specs.declared.Word.{Word}
 use Rattle.mem_words.specs.Words.{words, length-words}
@@ -53,6 +54,10 @@ logOf k L = words (cut 303104 (303104 + 3 * k) L)
 -- the slice is long enough
 pub record Laid (L : List ℕ) : Type 0 where
   pub long : 524288 ≤ length L
+
+-- r is the word at i of W; past the end there is none
+pub record Peeked (W : List Word) (i : ℕ) (r : Word) : Type 0 where
+  pub is : r ≡ getD W i Bad
 
 -- how many words the log may have, and how many applications
 pub record Logged (k : ℕ) : Type 0 where
@@ -204,6 +209,10 @@ moved-noted p = outside-wide 16384 303104 (omega arith) (omega arith) p
 
 pub same-moved : {L : List ℕ} → Moved L L
 same-moved = record { before = refl; after = refl; long = refl }
+
+-- a word that was read after a change is that of the log before it
+pub peek-moved : {L X : List ℕ} {i : ℕ} {r : Word} (k : ℕ) → Moved L X → Peeked (logOf k X) i r → r ≡ getD (logOf k L) i Bad
+peek-moved {L} {X} {i} k p e = e .is ∙ ap (λ (W : List Word). getD W i Bad) (moved-log k p)
 
 pub same-noted : {L : List ℕ} → Noted L L
 same-noted = record { before = refl; after = refl; long = refl }

@@ -6,7 +6,7 @@ ghost use lib.ListN.{length, getD};
 ghost use Rattle.mem_numbers.specs.Numbers.{Got};
 ghost use Rattle.mem_words.specs.Words.{words};
 ghost use Rattle.mem_parts.specs.Parts.{cut};
-ghost use Rattle.work_tables.specs.Tables.{marksOf, stackOf, donesOf, cellsOf, varsOf, oldsOf, posOf, localsOf, logOf, Laid, Logged, CanRead, CanWrite};
+ghost use Rattle.work_tables.specs.Tables.{marksOf, stackOf, donesOf, cellsOf, varsOf, oldsOf, posOf, localsOf, logOf, Laid, Logged, Peeked, CanRead, CanWrite};
 ghost use Rattle.work_tables.specs.Writes.{PutMark, PutStack, PutDone, PutCell, PutVar, PutOld, PutPos};
 use mem_words::Word;
 
@@ -133,7 +133,7 @@ fn word_in(w: &[u8], a: usize, e: usize, i: usize) -> Word
 // The word at `i` of the `k` words of the log; past them there is none.
 pub fn peek(w: &[u8], k: usize, i: usize) -> Word
     requires { ⌜ Laid (now w) × Logged k ⌝ }
-    ensures { λ r. ⌜ r ≡ getD (logOf k (now (w .entry))) i Word.Bad ⌝ }
+    ensures { λ r. ⌜ Peeked (logOf k (now (w .entry))) i r ⌝ }
 {
     let e = 303104 + 3 * k;
     word_in(w, 303104, e, i)

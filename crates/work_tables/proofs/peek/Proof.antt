@@ -16,7 +16,7 @@ word-in-requires c κs = (omega arith, omega (arith, c .before .pre .0 .long, c 
 
 returns : tie.Need-returns
 unfolding logOf
-returns c = c .word-in .ensures
+returns c = record { is = c .word-in .ensures }
 
 pub peek-spec : {M : Type 1} → statement M
 peek-spec = tie.close (tie.spec mul-e add-e word-in-requires returns)
