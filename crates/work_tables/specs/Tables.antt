@@ -11,7 +11,7 @@
 --   376,832   marks of locals                                        65,536   1
 --   442,368   81,920 bytes for what walks and answers need, up to 524,288
 -- Tables that change together stand side by side: the cycle test changes what lies below 16,384, a step of telling the cells and the trail.
-use mathlib.Core.Path.{_≡_, refl, ap, sym, _∙_}
+use mathlib.Core.Path.{_≡_, refl, ap, sym, _∙_, subst}
 use mathlib.Core.List.{List}
 use Prim.Native.Nat.{ℕ, _+_, _-_, _*_, _/_, _≤_, _<_}
 use native.Mathlib.Omega.{arith}
@@ -213,6 +213,13 @@ same-moved = record { before = refl; after = refl; long = refl }
 -- a word that was read after a change is that of the log before it
 pub peek-moved : {L X : List ℕ} {i : ℕ} {r : Word} (k : ℕ) → Moved L X → Peeked (logOf k X) i r → r ≡ getD (logOf k L) i Bad
 peek-moved {L} {X} {i} k p e = e .is ∙ ap (λ (W : List Word). getD W i Bad) (moved-log k p)
+
+-- what is true of the log and the positions after a change is true of those before it, and the other way round
+pub moved-at : {L X : List ℕ} (k : ℕ) (Q : List Word → List ℕ → Type 0) → Moved L X → Q (logOf k X) (posOf X) → Q (logOf k L) (posOf L)
+moved-at {L} {X} k Q p q = subst (λ (W : List Word). Q W (posOf L)) (moved-log k p) (subst (Q (logOf k X)) (moved-pos p) q)
+
+pub moved-to : {L X : List ℕ} (k : ℕ) (Q : List Word → List ℕ → Type 0) → Moved L X → Q (logOf k L) (posOf L) → Q (logOf k X) (posOf X)
+moved-to {L} {X} k Q p q = subst (λ (W : List Word). Q W (posOf X)) (sym (moved-log k p)) (subst (Q (logOf k L)) (sym (moved-pos p)) q)
 
 pub same-noted : {L : List ℕ} → Noted L L
 same-noted = record { before = refl; after = refl; long = refl }
