@@ -221,5 +221,9 @@ moved-at {L} {X} k Q p q = subst (λ (W : List Word). Q W (posOf L)) (moved-log 
 pub moved-to : {L X : List ℕ} (k : ℕ) (Q : List Word → List ℕ → Type 0) → Moved L X → Q (logOf k L) (posOf L) → Q (logOf k X) (posOf X)
 moved-to {L} {X} k Q p q = subst (λ (W : List Word). Q W (posOf X)) (sym (moved-log k p)) (subst (Q (logOf k L)) (sym (moved-pos p)) q)
 
+-- what is true of the positions before is true of those after
+pub at-pos : {L X : List ℕ} (Q : List ℕ → Type 0) → Moved L X → Q (posOf L) → Q (posOf X)
+at-pos Q p q = subst Q (sym (moved-pos p)) q
+
 pub same-noted : {L : List ℕ} → Noted L L
 same-noted = record { before = refl; after = refl; long = refl }

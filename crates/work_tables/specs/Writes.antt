@@ -1,14 +1,16 @@
 -- What a write to one table leaves of the others. Assumes nothing.
-use mathlib.Core.Path.{_≡_, refl, ap, sym, _∙_}
+use mathlib.Core.Path.{_≡_, refl, ap, sym, _∙_, subst}
 use mathlib.Core.List.{List}
 use Prim.Native.Nat.{ℕ, _+_, _-_, _*_, _/_, _≤_, _<_}
 use native.Mathlib.Omega.{arith}
-use lib.ListN.{length}
+use lib.ListN.{length, getD}
+use Rattle.mem_words.specs.declared.Word.{Word}
+use Rattle.mem_words.specs.declared.Word.the-variants.{Bad}
 use Rattle.mem_numbers.specs.Numbers.{shorts, triples, longs}
 use Rattle.mem_numbers.specs.Stored.{Stored}
 use Rattle.mem_words.specs.Words.{words}
 use Rattle.mem_parts.specs.Parts.{cut, Outside, outside-wide, cut-left, cut-right, CanGet, CanSet, Set2, Set3, Set4}
-use Rattle.work_tables.specs.Tables.{marksOf, stackOf, donesOf, cellsOf, varsOf, oldsOf, posOf, logOf, Laid, Searched, Moved, Noted, CanRead, CanWrite, length-mark, length-stack, length-done, length-cell, length-var, length-old, length-pos}
+use Rattle.work_tables.specs.Tables.{marksOf, stackOf, donesOf, cellsOf, varsOf, oldsOf, posOf, logOf, Laid, Peeked, Searched, Moved, Noted, CanRead, CanWrite, length-mark, length-stack, length-done, length-cell, length-var, length-old, length-pos}
 
 -- one table is written, the others of its group are as they were
 pub record PutMark (L : List ℕ) (i v : ℕ) (X : List ℕ) : Type 0 where
@@ -176,3 +178,21 @@ put-pos h s = record {
   log = λ k. ap words (cut-right 303104 (303104 + 3 * k) (omega arith) (s .rest));
   rest = outside-wide 16384 303104 (omega arith) (omega arith) (s .rest);
 }
+
+-- when a position was written, the log, the cells and the trail are as they were
+pub put-at : {L X : List ℕ} {i v : ℕ} (k : ℕ) (Q : List Word → List ℕ → List ℕ → List ℕ → Type 0) → PutPos L i v X → Q (logOf k X) (cellsOf X) (varsOf X) (oldsOf X) → Q (logOf k L) (cellsOf L) (varsOf L) (oldsOf L)
+put-at {L} {X} k Q p q =
+    subst (λ (W : List Word). Q W (cellsOf L) (varsOf L) (oldsOf L)) (p .log k)
+    (subst (λ (T : List ℕ). Q (logOf k X) T (varsOf L) (oldsOf L)) (p .cell)
+    (subst (λ (T : List ℕ). Q (logOf k X) (cellsOf X) T (oldsOf L)) (p .var)
+    (subst (λ (T : List ℕ). Q (logOf k X) (cellsOf X) (varsOf X) T) (p .old) q)))
+
+pub put-to : {L X : List ℕ} {i v : ℕ} (k : ℕ) (Q : List Word → List ℕ → List ℕ → List ℕ → Type 0) → PutPos L i v X → Q (logOf k L) (cellsOf L) (varsOf L) (oldsOf L) → Q (logOf k X) (cellsOf X) (varsOf X) (oldsOf X)
+put-to {L} {X} k Q p q =
+    subst (λ (W : List Word). Q W (cellsOf X) (varsOf X) (oldsOf X)) (sym (p .log k))
+    (subst (λ (T : List ℕ). Q (logOf k L) T (varsOf X) (oldsOf X)) (sym (p .cell))
+    (subst (λ (T : List ℕ). Q (logOf k L) (cellsOf L) T (oldsOf X)) (sym (p .var))
+    (subst (λ (T : List ℕ). Q (logOf k L) (cellsOf L) (varsOf L) T) (sym (p .old)) q)))
+
+pub peek-put : {L X : List ℕ} {i v j : ℕ} {r : Word} (k : ℕ) → PutPos L i v X → Peeked (logOf k X) j r → r ≡ getD (logOf k L) j Bad
+peek-put {L} {X} {i} {v} {j} k p e = e .is ∙ ap (λ (W : List Word). getD W j Bad) (p .log k)
