@@ -225,5 +225,11 @@ moved-to {L} {X} k Q p q = subst (λ (W : List Word). Q W (posOf X)) (sym (moved
 pub at-pos : {L X : List ℕ} (Q : List ℕ → Type 0) → Moved L X → Q (posOf L) → Q (posOf X)
 at-pos Q p q = subst Q (sym (moved-pos p)) q
 
+pub noted-at : {L X : List ℕ} (k : ℕ) (Q : List Word → Type 0) → Noted L X → Q (logOf k X) → Q (logOf k L)
+noted-at k Q p q = subst Q (noted-log k p) q
+
+pub noted-to : {L X : List ℕ} (k : ℕ) (Q : List Word → Type 0) → Noted L X → Q (logOf k L) → Q (logOf k X)
+noted-to k Q p q = subst Q (sym (noted-log k p)) q
+
 pub same-noted : {L : List ℕ} → Noted L L
 same-noted = record { before = refl; after = refl; long = refl }
