@@ -17,7 +17,7 @@ use Prim.Native.Nat.{ℕ, _+_, _-_, _*_, _/_, _≤_, _<_}
 use native.Mathlib.Omega.{arith}
 use lib.ListN.{length, getD}
 use Rattle.mem_words.specs.declared.Word.the-variants.{Bad}
-use Rattle.mem_numbers.specs.Numbers.{shorts, triples, longs, length-shorts, length-triples, length-longs}
+use Rattle.mem_numbers.specs.Numbers.{shorts, triples, longs, Got, length-shorts, length-triples, length-longs}
 use Rattle.mem_words.specs.declared.Word.{Word}
 use Rattle.mem_words.specs.Words.{words, length-words}
 use Rattle.mem_parts.specs.Parts.{cut, length-cut, Outside, outside-wide, outside-then, cut-left, cut-right}
@@ -230,6 +230,19 @@ noted-at k Q p q = subst Q (noted-log k p) q
 
 pub noted-to : {L X : List ℕ} (k : ℕ) (Q : List Word → Type 0) → Noted L X → Q (logOf k L) → Q (logOf k X)
 noted-to k Q p q = subst Q (sym (noted-log k p)) q
+
+-- the same for the tables that the cycle test reads
+pub searched-at : {L X : List ℕ} (k : ℕ) (Q : List Word → List ℕ → List ℕ → Type 0) → Searched L X → Q (logOf k X) (posOf X) (cellsOf X) → Q (logOf k L) (posOf L) (cellsOf L)
+searched-at {L} {X} k Q p q = subst (λ (W : List Word). Q W (posOf L) (cellsOf L)) (searched-log k p) (subst (λ (P : List ℕ). Q (logOf k X) P (cellsOf L)) (searched-pos p) (subst (Q (logOf k X) (posOf X)) (searched-cell p) q))
+
+pub searched-to : {L X : List ℕ} (k : ℕ) (Q : List Word → List ℕ → List ℕ → Type 0) → Searched L X → Q (logOf k L) (posOf L) (cellsOf L) → Q (logOf k X) (posOf X) (cellsOf X)
+searched-to {L} {X} k Q p q = subst (λ (W : List Word). Q W (posOf X) (cellsOf X)) (sym (searched-log k p)) (subst (λ (P : List ℕ). Q (logOf k L) P (cellsOf X)) (sym (searched-pos p)) (subst (Q (logOf k L) (posOf L)) (sym (searched-cell p)) q))
+
+pub got-pos : {L X : List ℕ} {i b r : ℕ} → Searched L X → Got (posOf X) i b r → Got (posOf L) i b r
+got-pos {L} {X} {i} {b} {r} p g = subst (λ (P : List ℕ). Got P i b r) (searched-pos p) g
+
+pub same-searched : {L : List ℕ} → Searched L L
+same-searched = record { before = refl; after = refl; long = refl }
 
 pub same-noted : {L : List ℕ} → Noted L L
 same-noted = record { before = refl; after = refl; long = refl }

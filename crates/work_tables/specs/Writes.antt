@@ -196,3 +196,10 @@ put-to {L} {X} k Q p q =
 
 pub peek-put : {L X : List ℕ} {i v j : ℕ} {r : Word} (k : ℕ) → PutPos L i v X → Peeked (logOf k X) j r → r ≡ getD (logOf k L) j Bad
 peek-put {L} {X} {i} {v} {j} k p e = e .is ∙ ap (λ (W : List Word). getD W j Bad) (p .log k)
+
+-- when a mark or a count was written, the other two tables of the cycle test are as they were
+pub mark-mates : {L X : List ℕ} {i v : ℕ} (Q : List ℕ → List ℕ → Type 0) → PutMark L i v X → Q (stackOf L) (donesOf L) → Q (stackOf X) (donesOf X)
+mark-mates {L} {X} Q p q = subst (λ (K : List ℕ). Q K (donesOf X)) (sym (p .stack)) (subst (Q (stackOf L)) (sym (p .done)) q)
+
+pub done-mates : {L X : List ℕ} {i v : ℕ} (Q : List ℕ → List ℕ → Type 0) → PutDone L i v X → Q (marksOf L) (stackOf L) → Q (marksOf X) (stackOf X)
+done-mates {L} {X} Q p q = subst (λ (M : List ℕ). Q M (stackOf X)) (sym (p .mark)) (subst (Q (marksOf L)) (sym (p .stack)) q)
