@@ -119,3 +119,13 @@ pub zero-of : (a e : ℕ) (L Y : List ℕ) → a ≤ e → e ≤ length L → le
 zero-of a e L Y h g k s =
     let l : length Y ≡ e - a = k ∙ length-cut a e L g in
     record { part = cut-put a e L Y h g l ∙ s ∙ ap (λ (n : ℕ). replicate n 0) (length-cut a e L g); rest = outside-put a e L Y h g l }
+
+-- a byte of the part was written
+pub record Set1 (a e : ℕ) (L : List ℕ) (i v : ℕ) (X : List ℕ) : Type 0 where
+  pub part : Stored (cut a e L) i v (cut a e X)
+  pub rest : Outside a e L X
+
+pub set1-of : (a e : ℕ) (L Y : List ℕ) (i v : ℕ) → a ≤ e → e ≤ length L → length Y ≡ length (cut a e L) → Stored (cut a e L) i v Y → Set1 a e L i v (putMid a (e - a) L Y)
+set1-of a e L Y i v h g k s =
+    let l : length Y ≡ e - a = k ∙ length-cut a e L g in
+    record { part = subst (λ (z : List ℕ). Stored (cut a e L) i v z) (sym (cut-put a e L Y h g l)) s; rest = outside-put a e L Y h g l }

@@ -1,7 +1,42 @@
 // Numbers of two, three and four bytes in a part of one lent slice, from `a` on up to `e`. The bounds are parameters and no
 // constants: the proof is made once, and no large numeral stands under `take` or `drop`.
-ghost use Rattle.mem_numbers.specs.Numbers.{shorts, triples, longs, Got};
-ghost use Rattle.mem_parts.specs.Parts.{cut, CanGet, CanSet, Set2, Set3, Set4, CanZero, Zeroed};
+ghost use Prim.Native.Nat.{_<_};
+ghost use lib.ListN.{length};
+ghost use Rattle.mem_numbers.specs.Numbers.{shorts, triples, longs, Got, CanPut};
+ghost use Rattle.mem_numbers.specs.Stored.{Stored};
+ghost use Rattle.mem_parts.specs.Parts.{cut, CanGet, CanSet, Set1, Set2, Set3, Set4, CanZero, Zeroed};
+
+// The byte at `i`, as a number.
+fn byte_get(b: &[u8], i: usize) -> usize
+    requires { ⌜ i < length (now b) ⌝ }
+    ensures { λ r. ⌜ Got (now (b .entry)) i 256 r ⌝ }
+{
+    mem_numbers::wide(b[i])
+}
+
+// Makes `v` the byte at `i`.
+fn byte_put(b: &mut [u8], i: usize, v: usize)
+    requires { ⌜ CanPut (now b) i 256 v ⌝ }
+    ensures { λ _. ⌜ Stored (now (b .entry)) i v (now (b .exit)) ⌝ }
+{
+    b[i] = (v % 256) as u8;
+}
+
+// The byte at `i` of the part, as a number.
+pub fn get1(w: &[u8], a: usize, e: usize, i: usize) -> usize
+    requires { ⌜ CanGet a e (now w) (cut a e (now w)) i ⌝ }
+    ensures { λ r. ⌜ Got (cut a e (now (w .entry))) i 256 r ⌝ }
+{
+    byte_get(&w[a..e], i)
+}
+
+// Makes `v` the byte at `i` of the part.
+pub fn put1(w: &mut [u8], a: usize, e: usize, i: usize, v: usize)
+    requires { ⌜ CanSet a e (now w) (cut a e (now w)) i 256 v ⌝ }
+    ensures { λ _. ⌜ Set1 a e (now (w .entry)) i v (now (w .exit)) ⌝ }
+{
+    byte_put(&mut w[a..e], i, v);
+}
 
 // The two-byte number at `i` of the part.
 pub fn get2(w: &[u8], a: usize, e: usize, i: usize) -> usize

@@ -9,8 +9,8 @@ use Rattle.mem_words.specs.declared.Word.the-variants.{Bad}
 use Rattle.mem_numbers.specs.Numbers.{shorts, triples, longs}
 use Rattle.mem_numbers.specs.Stored.{Stored}
 use Rattle.mem_words.specs.Words.{words}
-use Rattle.mem_parts.specs.Parts.{cut, Outside, outside-wide, cut-left, cut-right, CanGet, CanSet, Set2, Set3, Set4}
-use Rattle.work_tables.specs.Tables.{marksOf, stackOf, donesOf, cellsOf, varsOf, oldsOf, posOf, logOf, Laid, Peeked, Searched, Moved, Noted, CanRead, CanWrite, length-mark, length-stack, length-done, length-cell, length-var, length-old, length-pos}
+use Rattle.mem_parts.specs.Parts.{cut, Outside, outside-wide, cut-left, cut-right, CanGet, CanSet, Set1, Set2, Set3, Set4}
+use Rattle.work_tables.specs.Tables.{marksOf, stackOf, donesOf, cellsOf, varsOf, oldsOf, posOf, localsOf, logOf, Laid, Peeked, Searched, Moved, Noted, CanRead, CanWrite, length-mark, length-stack, length-done, length-cell, length-var, length-old, length-pos, length-locals}
 
 -- one table is written, the others of its group are as they were
 pub record PutMark (L : List ℕ) (i v : ℕ) (X : List ℕ) : Type 0 where
@@ -178,6 +178,23 @@ put-pos h s = record {
   log = λ k. ap words (cut-right 303104 (303104 + 3 * k) (omega arith) (s .rest));
   rest = outside-wide 16384 303104 (omega arith) (omega arith) (s .rest);
 }
+
+-- a mark of a local is written, and nothing else
+pub record PutLocal (L : List ℕ) (i v : ℕ) (X : List ℕ) : Type 0 where
+  pub locals : Stored (localsOf L) i v (localsOf X)
+  pub rest : Outside 376832 442368 L X
+
+pub get-local : {L : List ℕ} {i : ℕ} → CanRead L 65536 i → CanGet 376832 442368 L (cut 376832 442368 L) i
+unfolding localsOf
+get-local h = record { le = omega arith; fits = omega (arith, h .laid .long); inside = omega (arith, h .inside, length-locals (h .laid)) }
+
+pub set-local : {L : List ℕ} {i v : ℕ} → CanWrite L 65536 i 256 v → CanSet 376832 442368 L (cut 376832 442368 L) i 256 v
+unfolding localsOf
+set-local h = record { le = omega arith; fits = omega (arith, h .laid .long); inside = omega (arith, h .inside, length-locals (h .laid)); small = h .small }
+
+pub put-local : {L X : List ℕ} {i v : ℕ} → Laid L → Set1 376832 442368 L i v X → PutLocal L i v X
+unfolding localsOf
+put-local h s = record { locals = s .part; rest = s .rest }
 
 -- when a position was written, the log, the cells and the trail are as they were
 pub put-at : {L X : List ℕ} {i v : ℕ} (k : ℕ) (Q : List Word → List ℕ → List ℕ → List ℕ → Type 0) → PutPos L i v X → Q (logOf k X) (cellsOf X) (varsOf X) (oldsOf X) → Q (logOf k L) (cellsOf L) (varsOf L) (oldsOf L)

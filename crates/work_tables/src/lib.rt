@@ -7,7 +7,7 @@ ghost use Rattle.mem_numbers.specs.Numbers.{Got};
 ghost use Rattle.mem_words.specs.Words.{words};
 ghost use Rattle.mem_parts.specs.Parts.{cut};
 ghost use Rattle.work_tables.specs.Tables.{marksOf, stackOf, donesOf, cellsOf, varsOf, oldsOf, posOf, localsOf, logOf, Laid, Logged, Peeked, CanRead, CanWrite};
-ghost use Rattle.work_tables.specs.Writes.{PutMark, PutStack, PutDone, PutCell, PutVar, PutOld, PutPos};
+ghost use Rattle.work_tables.specs.Writes.{PutMark, PutStack, PutDone, PutCell, PutVar, PutOld, PutPos, PutLocal};
 use mem_words::Word;
 
 // The mark at `i`.
@@ -120,6 +120,22 @@ pub fn pos_put(w: &mut [u8], i: usize, v: usize)
     ensures { λ _. ⌜ PutPos (now (w .entry)) i v (now (w .exit)) ⌝ }
 {
     mem_parts::put4(w, 294912, 303104, i, v);
+}
+
+// The mark of the variable `x`: 0 if it is no local.
+pub fn local_get(w: &[u8], x: usize) -> usize
+    requires { ⌜ CanRead (now w) 65536 x ⌝ }
+    ensures { λ r. ⌜ Got (localsOf (now (w .entry))) x 256 r ⌝ }
+{
+    mem_parts::get1(w, 376832, 442368, x)
+}
+
+// Makes `v` the mark of the variable `x`.
+pub fn local_put(w: &mut [u8], x: usize, v: usize)
+    requires { ⌜ CanWrite (now w) 65536 x 256 v ⌝ }
+    ensures { λ _. ⌜ PutLocal (now (w .entry)) x v (now (w .exit)) ⌝ }
+{
+    mem_parts::put1(w, 376832, 442368, x, v);
 }
 
 // The word at `i` of the part; past its end there is none.
