@@ -244,5 +244,11 @@ got-pos {L} {X} {i} {b} {r} p g = subst (λ (P : List ℕ). Got P i b r) (search
 pub same-searched : {L : List ℕ} → Searched L L
 same-searched = record { before = refl; after = refl; long = refl }
 
+pub looked-at : {L X : List ℕ} (Q : List ℕ → List ℕ → List ℕ → List ℕ → Type 0) → Searched L X → Q (localsOf X) (cellsOf X) (varsOf X) (oldsOf X) → Q (localsOf L) (cellsOf L) (varsOf L) (oldsOf L)
+looked-at {L} {X} Q p q = subst (λ (M : List ℕ). Q M (cellsOf L) (varsOf L) (oldsOf L)) (searched-locals p) (subst (λ (M : List ℕ). Q (localsOf X) M (varsOf L) (oldsOf L)) (searched-cell p) (subst (λ (M : List ℕ). Q (localsOf X) (cellsOf X) M (oldsOf L)) (searched-var p) (subst (Q (localsOf X) (cellsOf X) (varsOf X)) (searched-old p) q)))
+
+pub looked-to : {L X : List ℕ} (Q : List ℕ → List ℕ → List ℕ → List ℕ → Type 0) → Searched L X → Q (localsOf L) (cellsOf L) (varsOf L) (oldsOf L) → Q (localsOf X) (cellsOf X) (varsOf X) (oldsOf X)
+looked-to {L} {X} Q p q = subst (λ (M : List ℕ). Q M (cellsOf X) (varsOf X) (oldsOf X)) (sym (searched-locals p)) (subst (λ (M : List ℕ). Q (localsOf L) M (varsOf X) (oldsOf X)) (sym (searched-cell p)) (subst (λ (M : List ℕ). Q (localsOf L) (cellsOf L) M (oldsOf X)) (sym (searched-var p)) (subst (Q (localsOf L) (cellsOf L) (varsOf L)) (sym (searched-old p)) q)))
+
 pub same-noted : {L : List ℕ} → Noted L L
 same-noted = record { before = refl; after = refl; long = refl }
