@@ -1,14 +1,16 @@
 // The constraint that a word of the log begins is told to the tables of the working slice. The contract is that of
-// `solve_tells`, at the tables of the slice.
+// `solve_tells`, at the tables of the slice, and that a new application stands where the word does.
+ghost use Prim.Native.Nat.{_+_};
 ghost use Rattle.solve_tells.specs.Tells.{CanOne, Telling, oneAt, appsAt};
 ghost use Rattle.work_tables.specs.Tables.{cellsOf, varsOf, oldsOf, posOf, logOf, Laid, Logged, Noted};
+ghost use Rattle.work_tells.specs.Positions.{Ahead};
 use solve_tells::Told;
 use solve_trails::Went;
 
 // Tells the constraint that the word at `i` begins, if it begins one.
 pub fn tell_one(w: &mut [u8], used: usize, n: usize, a: usize, i: usize) -> Told
     requires { ⌜ Laid (now w) × Logged used × CanOne (logOf used (now w)) (posOf (now w)) (cellsOf (now w)) (varsOf (now w)) (oldsOf (now w)) n a i ⌝ }
-    ensures { λ r. ⌜ Telling (logOf used (now (w .entry))) (posOf (now (w .entry))) (cellsOf (now (w .entry))) (varsOf (now (w .entry))) (oldsOf (now (w .entry))) n a (appsAt (logOf used (now (w .entry))) i) (oneAt (logOf used (now (w .entry))) i) (posOf (now (w .exit))) (cellsOf (now (w .exit))) (varsOf (now (w .exit))) (oldsOf (now (w .exit))) r × Noted (now (w .entry)) (now (w .exit)) ⌝ }
+    ensures { λ r. ⌜ Telling (logOf used (now (w .entry))) (posOf (now (w .entry))) (cellsOf (now (w .entry))) (varsOf (now (w .entry))) (oldsOf (now (w .entry))) n a (appsAt (logOf used (now (w .entry))) i) (oneAt (logOf used (now (w .entry))) i) (posOf (now (w .exit))) (cellsOf (now (w .exit))) (varsOf (now (w .exit))) (oldsOf (now (w .exit))) r × Noted (now (w .entry)) (now (w .exit)) × Ahead a (i + 1) (posOf (now (w .exit))) r ⌝ }
 {
     let b = solve_begins::begins(work_tables::peek(w, used, i));
     let j = i + 1;
