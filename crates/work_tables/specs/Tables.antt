@@ -59,7 +59,7 @@ pub record Laid (L : List ℕ) : Type 0 where
 pub record Peeked (W : List Word) (i : ℕ) (r : Word) : Type 0 where
   pub is : r ≡ getD W i Bad
 
--- how many words the log may have, and how many applications
+-- how many words the log may have
 pub record Logged (k : ℕ) : Type 0 where
   pub most : k ≤ 24576
 
