@@ -30,10 +30,10 @@ pub fn save(w: &mut [u8], n: usize, x: usize, c: usize)
     requires { ⌜ Laid (now w) × CanSave (cellsOf (now w)) (varsOf (now w)) (oldsOf (now w)) n x c ⌝ }
     ensures { λ _. ⌜ SavedIn (now (w .entry)) n x c (now (w .exit)) ⌝ }
 {
-    let old = work_tables::cell_get(w, x);
-    work_tables::var_put(w, n, x);
-    work_tables::old_put(w, n, old);
-    work_tables::cell_put(w, x, c);
+    let old = work_trail::cell_get(w, x);
+    work_trail::var_put(w, n, x);
+    work_trail::old_put(w, n, old);
+    work_trail::cell_put(w, x, c);
 }
 
 // Takes the changes back that the trail has from `m` on up to `n`, the newest first.
@@ -44,9 +44,9 @@ pub fn undo(w: &mut [u8], n: usize, m: usize)
     let mut i = n;
     while m < i {
         i -= 1;
-        let x = work_tables::var_get(w, i);
-        let o = work_tables::old_get(w, i);
-        work_tables::cell_put(w, x, o);
+        let x = work_trail::var_get(w, i);
+        let o = work_trail::old_get(w, i);
+        work_trail::cell_put(w, x, o);
     }
 }
 

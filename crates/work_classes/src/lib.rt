@@ -31,8 +31,8 @@ pub fn hang(w: &mut [u8], n: usize, a: usize, b: usize) -> usize
 {
     let one = n + 1;
     let two = one + 1;
-    let ra = work_tables::cell_get(w, a) / 4 % 64;
-    let cb = work_tables::cell_get(w, b);
+    let ra = work_trail::cell_get(w, a) / 4 % 64;
+    let cb = work_trail::cell_get(w, b);
     let rb = cb / 4 % 64;
     work_cells::save(w, n, a, 1 + ra * 4 + b * 256);
     if ra < rb {

@@ -12,7 +12,7 @@ fn clear(w: &mut [u8], a: usize)
 {
     let mut i = 0;
     while i < a {
-        work_tables::mark_put(w, i, 0);
+        work_search::mark_put(w, i, 0);
         i += 1;
     }
 }
@@ -27,7 +27,7 @@ fn sweep(w: &mut [u8], used: usize, a: usize) -> bool
     while k < a {
         let i = k;
         k += 1;
-        if work_tables::mark_get(w, i) == 0 {
+        if work_search::mark_get(w, i) == 0 {
             let r = work_explores::explore(w, used, a, q, i);
             if r == 0 {
                 return false;

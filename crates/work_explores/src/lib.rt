@@ -31,9 +31,9 @@ fn place(w: &mut [u8], h: usize, j: usize)
     requires { ⌜ Laid (now w) × CanPlace (marksOf (now w)) (stackOf (now w)) (donesOf (now w)) h j ⌝ }
     ensures { λ _. ⌜ Placed (marksOf (now (w .entry))) (stackOf (now (w .entry))) (donesOf (now (w .entry))) h j (marksOf (now (w .exit))) (stackOf (now (w .exit))) (donesOf (now (w .exit))) × Searched (now (w .entry)) (now (w .exit)) ⌝ }
 {
-    work_tables::mark_put(w, j, 1);
-    work_tables::stack_put(w, h, j);
-    work_tables::done_put(w, h, 0);
+    work_search::mark_put(w, j, 1);
+    work_search::stack_put(w, h, j);
+    work_search::done_put(w, h, 0);
 }
 
 // Goes on with a search until its stack is empty: 0 for a cycle, else the next rank.
@@ -45,21 +45,21 @@ fn drain(w: &mut [u8], used: usize, a: usize, n: usize, q: usize) -> usize
     let mut clock = q;
     while 0 < h {
         let top = h - 1;
-        let j = work_tables::stack_get(w, top);
-        let i = work_tables::done_get(w, top);
+        let j = work_search::stack_get(w, top);
+        let i = work_search::done_get(w, top);
         let p = work_tables::pos_get(w, j);
         let d = look(w, used, p + 3 + i);
         match d {
             Child::Last => {
-                work_tables::mark_put(w, j, clock);
+                work_search::mark_put(w, j, clock);
                 clock += 1;
                 h = top;
             }
             Child::Open => {
-                work_tables::done_put(w, top, i + 1);
+                work_search::done_put(w, top, i + 1);
             }
             Child::Bound(b) => {
-                let m = work_tables::mark_get(w, b);
+                let m = work_search::mark_get(w, b);
                 if m == 0 {
                     place(w, h, b);
                     h += 1;
@@ -67,7 +67,7 @@ fn drain(w: &mut [u8], used: usize, a: usize, n: usize, q: usize) -> usize
                     if m == 1 {
                         return 0;
                     }
-                    work_tables::done_put(w, top, i + 1);
+                    work_search::done_put(w, top, i + 1);
                 }
             }
         }

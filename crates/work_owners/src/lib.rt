@@ -11,8 +11,8 @@ fn own_one(w: &mut [u8], i: usize, m: usize) -> Owned
     requires { ⌜ Laid (now w) × CanLookOne (localsOf (now w)) (cellsOf (now w)) (varsOf (now w)) (oldsOf (now w)) i m ⌝ }
     ensures { λ r. ⌜ ((T X C : List ℕ) (from n : ℕ) → CanOwn (localsOf (now (w .entry))) T X C from n (cellsOf (now (w .entry))) (varsOf (now (w .entry))) (oldsOf (now (w .entry))) i m → Looking (localsOf (now (w .entry))) T X C from n (cellsOf (now (w .exit))) (varsOf (now (w .exit))) (oldsOf (now (w .exit))) (i + 1) r) × Moved (now (w .entry)) (now (w .exit)) ⌝ }
 {
-    let x = work_tables::var_get(w, i);
-    let c = work_tables::old_get(w, i);
+    let x = work_trail::var_get(w, i);
+    let c = work_trail::old_get(w, i);
     if c % 4 != 0 {
         return Owned::Apart(m);
     }
@@ -20,7 +20,7 @@ fn own_one(w: &mut [u8], i: usize, m: usize) -> Owned
         return Owned::Apart(m);
     }
     let r = work_cells::find(w, x);
-    let d = work_tables::cell_get(w, r);
+    let d = work_trail::cell_get(w, r);
     if d % 4 == 2 {
         return Owned::Joint(m);
     }

@@ -10,7 +10,7 @@ pub fn hold(w: &mut [u8], used: usize, n: usize, x: usize, k: usize) -> Went
     ensures { λ r. ⌜ Holding (logOf used (now (w .entry))) (posOf (now (w .entry))) (cellsOf (now (w .entry))) (varsOf (now (w .entry))) (oldsOf (now (w .entry))) n x k (cellsOf (now (w .exit))) (varsOf (now (w .exit))) (oldsOf (now (w .exit))) r × Moved (now (w .entry)) (now (w .exit)) ⌝ }
 {
     let r = work_cells::find(w, x);
-    let c = work_tables::cell_get(w, r);
+    let c = work_trail::cell_get(w, r);
     if c % 4 == 2 {
         let j = c / 256;
         if j == k {
@@ -36,8 +36,8 @@ pub fn settle(w: &mut [u8], used: usize, from: usize, n: usize) -> Went
     let mut i = from;
     let mut m = n;
     while i < m {
-        let x = work_tables::var_get(w, i);
-        let c = work_tables::old_get(w, i);
+        let x = work_trail::var_get(w, i);
+        let c = work_trail::old_get(w, i);
         i += 1;
         if c % 4 == 2 {
             let r = hold(w, used, m, x, c / 256);

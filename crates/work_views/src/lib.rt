@@ -10,7 +10,7 @@ pub fn view_of(w: &[u8], x: usize) -> View
     ensures { λ r. ⌜ Viewed (posOf (now (w .entry))) (cellsOf (now (w .entry))) x r ⌝ }
 {
     let r = work_cells::find(w, x);
-    let c = work_tables::cell_get(w, r);
+    let c = work_trail::cell_get(w, r);
     if c % 4 != 2 {
         return View::Unbound(r);
     }

@@ -1,8 +1,8 @@
 -- The table is the part, and the others lie outside of it. Assumes nothing.
 use Rattle.work_tables.specs.Writes.{set-cell, put-cell}
 use borrow.Author.Needs.{needs}
-use Rattle.work_tables.proofs.cell_put.Statement.{statement}
-use Rattle.work_tables.proofs.cell_put.Tie as tie
+use Rattle.work_trail.proofs.cell_put.Statement.{statement}
+use Rattle.work_trail.proofs.cell_put.Tie as tie
 
 put3-requires : tie.Need-put3-requires
 put3-requires c κs = set-cell (c .before .before .pre)

@@ -1,9 +1,9 @@
 -- The table is the part. Assumes nothing.
 use Rattle.work_tables.specs.Tables.{stackOf}
 use Rattle.work_tables.specs.Writes.{get-stack}
 use borrow.Author.Needs.{needs}
-use Rattle.work_tables.proofs.stack_get.Statement.{statement}
-use Rattle.work_tables.proofs.stack_get.Tie as tie
+use Rattle.work_search.proofs.stack_get.Statement.{statement}
+use Rattle.work_search.proofs.stack_get.Tie as tie
 
 get2-requires : tie.Need-get2-requires
 get2-requires c κs = get-stack (c .before .pre)

@@ -1,9 +1,9 @@
 -- The table is the part. Assumes nothing.
 use Rattle.work_tables.specs.Tables.{oldsOf}
 use Rattle.work_tables.specs.Writes.{get-old}
 use borrow.Author.Needs.{needs}
-use Rattle.work_tables.proofs.old_get.Statement.{statement}
-use Rattle.work_tables.proofs.old_get.Tie as tie
+use Rattle.work_trail.proofs.old_get.Statement.{statement}
+use Rattle.work_trail.proofs.old_get.Tie as tie
 
 get3-requires : tie.Need-get3-requires
 get3-requires c κs = get-old (c .before .pre)

@@ -1,8 +1,8 @@
 -- The table is the part, and the others lie outside of it. Assumes nothing.
 use Rattle.work_tables.specs.Writes.{set-done, put-done}
 use borrow.Author.Needs.{needs}
-use Rattle.work_tables.proofs.done_put.Statement.{statement}
-use Rattle.work_tables.proofs.done_put.Tie as tie
+use Rattle.work_search.proofs.done_put.Statement.{statement}
+use Rattle.work_search.proofs.done_put.Tie as tie
 
 put4-requires : tie.Need-put4-requires
 put4-requires c κs = set-done (c .before .before .pre)

@@ -1,9 +1,9 @@
 -- The table is the part. Assumes nothing.
 use Rattle.work_tables.specs.Tables.{varsOf}
 use Rattle.work_tables.specs.Writes.{get-var}
 use borrow.Author.Needs.{needs}
-use Rattle.work_tables.proofs.var_get.Statement.{statement}
-use Rattle.work_tables.proofs.var_get.Tie as tie
+use Rattle.work_trail.proofs.var_get.Statement.{statement}
+use Rattle.work_trail.proofs.var_get.Tie as tie
 
 get2-requires : tie.Need-get2-requires
 get2-requires c κs = get-var (c .before .pre)

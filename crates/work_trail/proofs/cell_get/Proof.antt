@@ -1,9 +1,9 @@
 -- The table is the part. Assumes nothing.
 use Rattle.work_tables.specs.Tables.{cellsOf}
 use Rattle.work_tables.specs.Writes.{get-cell}
 use borrow.Author.Needs.{needs}
-use Rattle.work_tables.proofs.cell_get.Statement.{statement}
-use Rattle.work_tables.proofs.cell_get.Tie as tie
+use Rattle.work_trail.proofs.cell_get.Statement.{statement}
+use Rattle.work_trail.proofs.cell_get.Tie as tie
 
 get3-requires : tie.Need-get3-requires
 get3-requires c κs = get-cell (c .before .pre)
