@@ -4,5 +4,5 @@ fn main() {
     let top = std::env::var("CARGO_MANIFEST_DIR").expect("set by cargo");
     println!("cargo:rustc-link-search=native={top}/../../target/staticlib");
     println!("cargo:rustc-link-lib=static=solve_bench");
-    println!("cargo:rerun-if-changed={top}/../../target/staticlib/libsolverbench.a");
+    println!("cargo:rerun-if-changed={top}/../../target/staticlib/libsolve_bench.a");
 }
