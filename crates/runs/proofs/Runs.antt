@@ -6,7 +6,8 @@ use mathlib.Core.Bool.{not}
 use mathlib.Core.Option.{Option, some, none}
 use Prim.Native.Nat.{ℕ, zero, suc, _+_}
 use native.Mathlib.Omega.{arith}
-use lib.Dec.{T}
+use lib.Dec.{T, eqb}
+use Rattle.constraint.proofs.Lists.{or-T, eqb-T}
 use Rattle.constraint.specs.Constraint.{Asg}
 use Rattle.akl.specs.Base.{Name, size, nth, Result, refused, ok}
 use Rattle.akl.specs.Syntax.{Program}
@@ -64,6 +65,13 @@ module _ (limit : ℕ) (P : Program) where
   unfolding after-calls calls-moves
   calls-chain [] c = refl
   calls-chain (k ∷ ks) c = chain-append (call-moves limit P c k) (calls-moves limit P (after-call limit P c k) ks) c (after-call limit P c k) (after-calls limit P (after-call limit P c k) ks) (call-chain c k) (calls-chain ks (after-call limit P c k))
+
+-- "only condition and commit steps (7, 8)": these two rules, and no other
+pub prunes-iff : (r : ℕ) → T (prunes r) ↔ ((r ≡ 7) ⊎ (r ≡ 8))
+prunes-iff r = (
+    (λ t. elim (or-T (eqb r 7) (eqb r 8) .0 t) [ inl a ↦ inl (eqb-T r 7 .0 a) | inr b ↦ inr (eqb-T r 8 .0 b) ]),
+    (λ s. or-T (eqb r 7) (eqb r 8) .1 (elim s [ inl e ↦ inl (eqb-T r 7 .1 e) | inr e ↦ inr (eqb-T r 8 .1 e) ])),
+)
 
 -- neither 7 nor 8
 not-seven : (m : Move) → Keeps-all m → ¬ (m .taken .rule ≡ 7)

@@ -207,13 +207,24 @@ used-unfit =
     let w = held (ks₀ ++ (unfit-call store-bad ∷ [])) .each-call ks₀ (unfit-call store-bad) [] refl in
     (w .holds .told, w .goes-on ∙ sym (w .holds .chain))
 
--- The second answer again, at the end of another run, with one text for all steps: it has the same text, and so the same solutions.
+-- The first answer at the end of one run and the second at the end of another have different texts, and so not the same solutions.
 unfoldable pub ls₀ : List Call
 ls₀ = steps-text (bytes "2 2 0\n5 2 0\n1 8 0\n1 5 0\n12 2 1\n14 1 0\n6 2 0\n6 4 0\n1 4 0\n1 2 0\n") ∷ []
 
-pub used-apart : (ρ : Asg) → Allows 1 second-answer ρ ↔ Allows 1 second-answer ρ
-unfolding everything P₀ q₀ c₀ before₀ behind₀ ks₀ ls₀ program-of query-of config-of after-calls second-answer
-used-apart = held ks₀ .texts-apart ls₀ second-answer second-answer (inr (inl refl)) (inr (inl refl)) .0 refl
+unfoldable pub first-answer : Answer
+first-answer = (0 ∷ [], capp 0 (bytes "kept") [] ∷ [])
+
+pub used-apart : ((ρ : Asg) → Allows 1 first-answer ρ ↔ Allows 1 second-answer ρ) → ⊥
+unfolding everything P₀ q₀ c₀ before₀ behind₀ ks₀ ls₀ program-of query-of config-of after-calls first-answer second-answer
+used-apart h =
+    let e = held ks₀ .texts-apart ls₀ first-answer second-answer (inl refl) (inr (inl refl)) .1 h in
+    let z : _≡_ {A = ℕ} 107 110 = ap (λ (l : List ℕ). nth-byte l 4) e in
+    omega (arith, z)
+  where
+    nth-byte : List ℕ → ℕ → ℕ
+    nth-byte [] n = 0
+    nth-byte (x ∷ l) zero = x
+    nth-byte (x ∷ l) (suc n) = nth-byte l n
 
 -- A solution of the query fits a text that an answer call hands out.
 pub used-handed : (ρ : Asg) → ρ 0 ≡ kept → (n : ℕ) × (t : List ℕ) × (outcome 2048 P₀ (q₀ .variables) (after-calls 2048 P₀ c₀ ks₀) (ask-answer n (size t)) ≡ shown t)

@@ -22,7 +22,7 @@ most-program-words = 5 * program-bytes / 2
 abbrev pub part-words : ℕ
 part-words = 14
 
--- "no variable number is higher than 65,534": numbers and words' values have two bytes
+-- "numbers stay at or below 65,534": numbers and words' values have two bytes
 abbrev pub two-bytes : ℕ
 two-bytes = 65536
 

@@ -92,7 +92,7 @@ program-widest [] = 0
 program-widest (d ∷ ds) = max (widest (d .body) (d .arity)) (program-widest ds)
 
 -- No hidden list is longer than 2 to the power of 24. Names of 32 bytes are many but not without end, so that some bound has to
--- be put; in a store the length of a list is written in three bytes.
+-- be put; in a store the length of a list is the value of a word, of two bytes.
 abbrev pub most-hidden : ℕ
 most-hidden = 16777216
 
