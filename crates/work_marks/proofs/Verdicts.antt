@@ -1,0 +1,1 @@
+-- Satisfiable and Quiet of a walk. Assumes nothing.
