@@ -59,10 +59,8 @@ module _ (ms : List Mark) (S : List Word) (L X : List ℕ) (from len : ℕ) (w :
   H : Here ms (logOf (usedAt ms) L) (posOf L) (cellsOf L) (varsOf L) (oldsOf L)
   H = stand-here ms (logOf (usedAt ms) L) (posOf L) (cellsOf L) (varsOf L) (oldsOf L) (w .stand)
 
-  W₁ : List Word
-  W₁ = longer S L (usedAt ms) from len
 
-  more-means : (lab : ℕ → Label) → Means lab (longer S L (usedAt ms) from len) (posOf L) (cellsOf L) (allTold lab ms)
+  pub more-means : (lab : ℕ → Label) → Means lab (longer S L (usedAt ms) from len) (posOf L) (cellsOf L) (allTold lab ms)
   more-means lab = means-more lab (logOf (usedAt ms) L) (run from len S ++ stop) (posOf L) (cellsOf L) (appsAt ms) (allTold lab ms) (H .closed) (H .state .apps) (H .means lab)
 
   pub walk-pushed : (n a : ℕ) → Pushed S L (usedAt ms) (trailAt ms) (appsAt ms) from len X (All n a) → Walk X (after ms S from len n a ∷ ms)
