@@ -97,11 +97,19 @@ short-never W T Z q h (inr k) r = omega (arith, k, r .trail, reach-vars W T, len
 longer-searched : {L Y : List ℕ} (S : List Word) (used from len : ℕ) → Searched L Y → longer S Y used from len ≡ longer S L used from len
 longer-searched S used from len s = ap (λ (v : List Word). v ++ (run from len S ++ stop)) (searched-log used s)
 
-apps-range : (S : List Word) (Y : List ℕ) (used from len : ℕ) → Laid Y → used + len + 3 ≤ 24576 → appsIn (longer S Y used from len) used (used + len) ≡ appsTold S from len
+pub apps-range : (S : List Word) (Y : List ℕ) (used from len : ℕ) → Laid Y → used + len + 3 ≤ 24576 → appsIn (longer S Y used from len) used (used + len) ≡ appsTold S from len
 apps-range S Y used from len h r =
     let l : length (logOf used Y) ≡ used = length-log used h (record { most = omega arith }) in
     let k : used + len - used ≡ len = omega arith in
     ap (λ (m : ℕ). appsOf m (drop used (longer S Y used from len))) k ∙ ap (appsOf len) (drop-at (logOf used Y) (run from len S ++ stop) used l)
+
+-- a push on a slice with room does not stop
+pub stop-never : (S : List Word) (Y Z : List ℕ) (used n a from len m b : ℕ) → CanPush S Y used n a from len → Pushed S Y used n a from len Z (NoRoom m b) → RoomIn (longer S Y used from len) (a + appsTold S from len) → ⊥
+stop-never S Y Z used n a from len m b c p r = go (p .told .short)
+  where
+    go : Short (longer S Y used from len) (cellsOf Y) (trailVars Y) (oldsOf Y) ⊎ (length (posOf Y) < a + appsIn (longer S Y used from len) used (used + len)) → ⊥
+    go (inl k) = short-never (longer S Y used from len) (cellsOf Y) Y (a + appsTold S from len) (c .room .laid) k r
+    go (inr k) = omega (arith, k, r .apps, length-pos (c .room .laid), apps-range S Y used from len (c .room .laid) (c .room .room))
 
 module _ (S : List Word) (L Y Z : List ℕ) (used n a from len : ℕ) (s : Searched L Y) (c : CanPush S Y used n a from len) (v : Solved (logOf used L) (posOf L) (cellsOf L) true) where
   sat : (ms : List Mark) → Walk L ms → usedAt ms ≡ used → (lab : ℕ → Label) → Satisfiable (allTold lab ms)
@@ -133,8 +141,4 @@ module _ (S : List Word) (L Y Z : List ℕ) (used n a from len : ℕ) (s : Searc
   against-clash m b p = record { fits = tt; right = λ ms w eu en ea lab d vs mk fr. walk-clash-loud [] ms S Y Z from len m b (walk-searched ms L Y w s) (at-walk ms S L Y used n a from len w eu en ea s c) (pushed-at ms S L Y used n a from len w eu en ea s c Z (Failed m b) p) lab d vs fr (sat ms w eu lab) }
 
   pub against-stop : (m b : ℕ) → Pushed S Y used n a from len Z (NoRoom m b) → Against S L used n a from len NoSpace
-  against-stop m b p = record { fits = (tt, λ r. go r (p .told .short)); right = λ ms w eu en ea lab d vs mk fr. tt }
-    where
-      go : RoomIn (longer S L used from len) (a + appsTold S from len) → Short (longer S Y used from len) (cellsOf Y) (trailVars Y) (oldsOf Y) ⊎ (length (posOf Y) < a + appsIn (longer S Y used from len) used (used + len)) → ⊥
-      go r (inl k) = short-never (longer S L used from len) (cellsOf Y) Y (a + appsTold S from len) (c .room .laid) (subst (λ (u : List Word). Short u (cellsOf Y) (trailVars Y) (oldsOf Y)) (longer-searched S used from len s) k) r
-      go r (inr k) = omega (arith, k, r .apps, length-pos (c .room .laid), apps-range S Y used from len (c .room .laid) (c .room .room))
+  against-stop m b p = record { fits = (tt, λ r. stop-never S Y Z used n a from len m b c p (subst (λ (u : List Word). RoomIn u (a + appsTold S from len)) (sym (longer-searched S used from len s)) r)); right = λ ms w eu en ea lab d vs mk fr. tt }

@@ -1,6 +1,8 @@
 // Whether one store is quiet for one environment, both ranges of the same words, on the working slice.
+ghost use Rattle.mem_numbers.specs.Numbers.{shorts};
 ghost use Rattle.mem_words.specs.Words.{words};
-ghost use Rattle.work_judge.specs.Judging.{CanAgainst, Against};
+ghost use Rattle.work_tables.specs.Tables.{Laid};
+ghost use Rattle.work_judge.specs.Judging.{CanAgainst, Against, Suit, Locals};
 use solve_quiet::Calm;
 use solve_tells::Told;
 use solve_verdicts::Judged;
@@ -36,4 +38,42 @@ pub fn against(
         Told::Failed(_m, _b) => Judged::Loudly,
         Told::NoRoom(_m, _b) => Judged::NoSpace,
     }
+}
+
+// Marks the variables whose numbers, of two bytes each, stand in `locals`, and no others.
+pub fn mark_locals(locals: &[u8], w: &mut [u8])
+    requires { ⌜ Laid (now w) ⌝ }
+    ensures { λ _. ⌜ Locals (now (w .entry)) (shorts (now (locals .entry))) (now (w .exit)) ⌝ }
+{
+    mem_parts::zero(w, 376832, 442368);
+    let k = mem_numbers::short_count(locals);
+    let mut i = 0;
+    while i < k {
+        let x = mem_numbers::short_get(locals, i);
+        work_tables::local_put(w, x, 1);
+        i += 1;
+    }
+}
+
+// Whether the words and the ranges fit the slice.
+fn suit(t: &[u8], w: &[u8], from: usize, mid: usize, to: usize) -> bool
+    ensures { λ r. ⌜ Suit (words (now (t .entry))) from mid to (now (w .entry)) r ⌝ }
+{
+    let n = mem_words::count(t);
+    if mid < from {
+        return false;
+    }
+    if to < mid {
+        return false;
+    }
+    if n < to {
+        return false;
+    }
+    if w.len() < 524288 {
+        return false;
+    }
+    if 24570 < to - from {
+        return false;
+    }
+    solve_fits::vars_below(t, 65536)
 }
