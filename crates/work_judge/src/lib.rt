@@ -2,7 +2,7 @@
 ghost use Rattle.mem_numbers.specs.Numbers.{shorts};
 ghost use Rattle.mem_words.specs.Words.{words};
 ghost use Rattle.work_tables.specs.Tables.{Laid};
-ghost use Rattle.work_judge.specs.Judging.{CanAgainst, Against, Suit, Locals};
+ghost use Rattle.work_judge.specs.Judging.{CanAgainst, Against, Suit, Locals, Judgement};
 use solve_quiet::Calm;
 use solve_tells::Told;
 use solve_verdicts::Judged;
@@ -76,4 +76,34 @@ fn suit(t: &[u8], w: &[u8], from: usize, mid: usize, to: usize) -> bool
         return false;
     }
     solve_fits::vars_below(t, 65536)
+}
+
+// Whether the constraints in the words from `mid` on up to `to` are quiet, with the variables of `locals` as locals, for those from
+// `from` on up to `mid`. The tables of the slice are made anew.
+pub fn judge(
+    t: &[u8],
+    locals: &[u8],
+    w: &mut [u8],
+    from: usize,
+    mid: usize,
+    to: usize,
+) -> Judged
+    ensures { λ r. ⌜ Judgement (words (now (t .entry))) from mid to (shorts (now (locals .entry))) (now (w .entry)) r ⌝ }
+{
+    if !suit(t, w, from, mid, to) {
+        return Judged::Unfit;
+    }
+    mem_parts::zero(w, 16384, 212992);
+    mark_locals(locals, w);
+    let len = mid - from;
+    let o = work_walk::push(t, w, 0, 0, 0, from, len);
+    match o {
+        Told::All(n, a) => {
+            let used = len + 3;
+            let rest = to - mid;
+            against(t, w, used, n, a, mid, rest)
+        }
+        Told::Failed(_n, _a) => Judged::Silent,
+        Told::NoRoom(_n, _a) => Judged::NoSpace,
+    }
 }
