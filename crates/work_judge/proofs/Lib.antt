@@ -1,3 +1,4 @@
 pub mod Answers
 pub mod Locals
+pub mod Room
 pub mod Starting

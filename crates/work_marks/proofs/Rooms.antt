@@ -22,7 +22,7 @@ use Rattle.solve_owners.specs.Owners.{Marks}
 use Rattle.work_tables.specs.Tables.{cellsOf, varsOf as trailVars, oldsOf, posOf, logOf, Laid, length-var, length-old, length-pos}
 use Rattle.work_log.specs.Logs.{stop, log-append}
 use Rattle.work_walk.specs.Pushes.{CanPush, Pushed, longer}
-use Rattle.work_marks.specs.Draws.{Drawn, Crowded}
+use Rattle.work_marks.specs.Draws.{Drawn, Tight, Crowded}
 use Rattle.work_marks.specs.Marks.{Mark, trailAt, appsAt, usedAt, Walk}
 use Rattle.work_marks.proofs.Standing.{stand-here}
 
@@ -80,7 +80,7 @@ marks-crowded W P T X C O X′ C′ n a m s k f vs o w = go f
     most : m ≤ 3 * length vs
     most = omega (arith, s .cost, k .cost, weights-in vs O (k .within vs o w .cells))
 
-    go : Filled X C m → (length X < 3 * length vs + 2) ⊎ (length C < 3 * length vs + 2)
+    go : Filled X C m → Tight vs X C
     go (inl h) = inl (omega (arith, most))
     go (inr h) = inr (omega (arith, most))
 
@@ -88,7 +88,7 @@ marks-crowded W P T X C O X′ C′ n a m s k f vs o w = go f
 pub crowded-never : (W : List Word) (P T X C : List ℕ) (n a : ℕ) (vs : List ℕ) → State W P T X C n a → Crowded T X C n → Drawn W vs → 3 * length vs + 2 ≤ length X → 3 * length vs + 2 ≤ length C → ⊥
 crowded-never W P T X C n a vs s k d x y = go (k vs (old-drawn W vs X 0 n d (s .used)) (within-drawn W vs T d (s .sound .within)))
   where
-    go : (length X < 3 * length vs + 2) ⊎ (length C < 3 * length vs + 2) → ⊥
+    go : Tight vs X C → ⊥
     go (inl h) = omega arith
     go (inr h) = omega arith
 

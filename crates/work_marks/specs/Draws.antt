@@ -13,6 +13,10 @@ use Rattle.solve_fields.specs.Read.{varOf}
 pub record Drawn (W : List Word) (vs : List ℕ) : Type 0 where
   pub at : (i : ℕ) → In (varOf (getD W i Bad)) vs
 
--- the trail is too short for every list that has the touched variables: 3 entries for each and 2 more are enough
+-- the trail is too short for vs: it has not 3 entries for each variable and 2 more
+abbrev pub Tight : List ℕ → List ℕ → List ℕ → Type 0
+Tight vs X C = (length X < 3 * length vs + 2) ⊎ (length C < 3 * length vs + 2)
+
+-- and is so for every list that has the touched variables
 abbrev pub Crowded : List ℕ → List ℕ → List ℕ → ℕ → Type 0
-Crowded T X C n = (vs : List ℕ) → OldIn X 0 n vs → Within vs T → (length X < 3 * length vs + 2) ⊎ (length C < 3 * length vs + 2)
+Crowded T X C n = (vs : List ℕ) → OldIn X 0 n vs → Within vs T → Tight vs X C

@@ -1,3 +1,4 @@
+-- The answers are laws of `Answers`, at the walk of the mark. Assumes nothing.
 use mathlib.Core.Path.{refl}
 use mathlib.Core.Bool.{true, false}
 use borrow.Author.Tests.{not-false, not-true}

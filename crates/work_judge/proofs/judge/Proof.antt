@@ -1,3 +1,4 @@
+-- The answers are laws of `Starting`, from the empty walk. Assumes nothing.
 use mathlib.Core.Path.{refl}
 use Prim.Native.Nat.{_+_, _-_}
 use native.Mathlib.Omega.{arith}

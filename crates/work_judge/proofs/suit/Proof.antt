@@ -1,3 +1,4 @@
+-- The checks, one after another. Assumes nothing.
 use native.Mathlib.Omega.{arith}
 use Rattle.mem_words.specs.Words.{words}
 use Rattle.work_judge.proofs.Locals.{suit-all}
