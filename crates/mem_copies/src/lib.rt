@@ -1,4 +1,4 @@
-// Runs of words copied, and one word with its level opened.
+// Copies of runs of words, as they are or opened.
 ghost use lib.ListN.{drop};
 ghost use Rattle.mem_words.specs.Words.{words};
 ghost use Rattle.mem_copies.specs.Runs.{run, CanCopy, Copied};

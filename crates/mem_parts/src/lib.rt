@@ -1,4 +1,4 @@
-// Numbers of one to four bytes in a part of one lent slice, from `a` on up to `e`. The bounds are parameters and no
+// Numbers of two, three and four bytes in a part of one lent slice, from `a` on up to `e`. The bounds are parameters and no
 // constants: the proof is made once, and no large numeral stands under `take` or `drop`.
 ghost use Prim.Native.Nat.{_<_};
 ghost use lib.ListN.{length};

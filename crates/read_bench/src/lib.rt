@@ -1,4 +1,4 @@
-// `read_both::read` as a function that C and Rust can call, for tests/reader and bench/reader.
+// The reader of `inputs` as a function that C and Rust can call, for tests/reader and bench/reader.
 ghost use mathlib.Core.Path.{_≡_};
 ghost use Rattle.mem_numbers.specs.Numbers.{shorts, triples, longs};
 ghost use Rattle.mem_words.specs.Words.{words};

@@ -1,4 +1,4 @@
-// All definitions of a program, one after another.
+// The bodies of all definitions, one after another.
 ghost use Rattle.mem_numbers.specs.Numbers.{shorts, triples};
 ghost use Rattle.mem_words.specs.Words.{words};
 ghost use Rattle.read_definitions.specs.Definitions.{CanBodies, Bodies};

@@ -1,4 +1,4 @@
-// Words written one after another. A slot that may stay empty is the word `Bad`; `read_compact::compact` drops those that did.
+// Words written one after another. A slot that may stay empty is the word `Bad`; `compact` drops the slots that did.
 ghost use Prim.Native.Nat.{_≤_};
 ghost use lib.ListN.{length};
 ghost use Rattle.mem_words.specs.Words.{words, Small};

@@ -1,4 +1,5 @@
-// Where a definition ends in a table of tokens. The stack is for the brackets that are open in a statement.
+// Whether a table of tokens is of the grammar: a statement and a full stop, or definitions. The stack is for the brackets that
+// are open in a statement.
 ghost use Rattle.mem_numbers.specs.Numbers.{triples};
 ghost use Rattle.read_phrases.specs.Codes.{Known};
 ghost use Rattle.read_grammar.specs.Grammar.{DefinitionTo};

@@ -1,6 +1,6 @@
 // Statements read from a table of tokens and written as words: statement, bracket and clause call each other, with the
 // remaining tokens falling, and no deeper than brackets may nest. A text is known to be of the grammar before it is read
-// (read_shapes), so that brackets too deep, too many arguments or too many query variables end the reading at once: no
+// (crate grammar), so that brackets too deep, too many arguments or too many query variables end the reading at once: no
 // lower refusal can be due.
 ghost use Rattle.mem_numbers.specs.Numbers.{shorts, triples};
 ghost use Rattle.mem_words.specs.Words.{words};

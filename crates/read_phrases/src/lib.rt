@@ -1,4 +1,4 @@
-// Phrases of a text in its table of tokens: kinds and numbers of tokens, lists of variables; what simple statements there are.
+// Phrases of a text in its table of tokens: lists of variables, arguments and hidden lists; what simple statements there are.
 // A token is a number of three bytes: its kind, and 256 times the number of its name.
 ghost use mathlib.Core.Path.{_≡_};
 ghost use Rattle.mem_numbers.specs.Numbers.{triples};

@@ -1,4 +1,4 @@
-// Empty slots for what a bracket turns out to be, and the words that open a further clause.
+// Slots kept before what is in a bracket and before a clause.
 ghost use Prim.Native.Nat.{_+_, _<_};
 ghost use Rattle.mem_words.specs.Words.{words};
 ghost use Rattle.read_pieces.specs.Slots.{SlotsTo, ClauseTo};

@@ -1,4 +1,4 @@
-// Steps texts: what a line says, and one decimal number below 2^32 read.
+// Steps texts: a line for each step, of three decimal numbers below 2^32.
 ghost use mathlib.Core.Path.{_≡_};
 ghost use Rattle.read_steps.specs.Numbers.{CanAdd, capped, Numbered};
 use refusals::Refusal;

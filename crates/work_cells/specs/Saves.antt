@@ -1,4 +1,4 @@
--- Saving and taking back in one working slice: what `solve_cells` says, at the tables of the slice. Assumes nothing.
+-- Saving and taking back in one working slice: what `cells` says, at the tables of the slice. Assumes nothing.
 use mathlib.Core.Path.{_≡_, refl, ap, ap₂, sym, _∙_, subst}
 use mathlib.Core.List.{List}
 use Prim.Native.Nat.{ℕ, _+_, _-_, _≤_, _<_}

@@ -1,5 +1,5 @@
-// Accessors of positions, marks of locals and the log in the working slice. The layout and the views of all tables stand in
-// specs/; work_trail and work_search have the accessors of the others.
+// The tables of the working slice, as accessors. Only this crate knows where they lie: every contract above speaks of the
+// tables alone.
 ghost use mathlib.Core.Path.{_≡_};
 ghost use Prim.Native.Nat.{_≤_};
 ghost use lib.ListN.{length, getD};

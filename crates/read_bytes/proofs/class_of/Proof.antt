@@ -1,4 +1,4 @@
--- `read_bytes::class_of` meets its contract: each return is a range of bytes of one class. Assumes nothing.
+-- `read_tokens::class_of` meets its contract: each return is a range of bytes of one class. Assumes nothing.
 use native.Mathlib.Omega.{arith}
 use Rattle.akl.specs.Token.{small, capital, digit, underscore, blank, mark, other, class-of}
 use Rattle.read_bytes.specs.Classes.{number, all-of, in-range}

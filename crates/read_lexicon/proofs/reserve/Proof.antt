@@ -1,4 +1,4 @@
--- `read_lexicon::reserve` meets its contract: two names in a trie of the root. Assumes nothing.
+-- `read_texts::reserve` meets its contract: two names in a trie of the root. Assumes nothing.
 use mathlib.Core.Path.{refl, _∙_}
 use native.Mathlib.Omega.{arith}
 use borrow.Author.Tests.{not-true, not-false}

@@ -1,4 +1,4 @@
--- `read_lookups::level_of` meets its contract. Assumes nothing.
+-- `read_scopes::level_of` meets its contract. Assumes nothing.
 use mathlib.Core.Path.{sym}
 use native.Mathlib.Omega.{arith}
 use lib.ListN.{List·getD-eq-default}

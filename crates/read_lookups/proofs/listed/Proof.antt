@@ -1,4 +1,4 @@
--- `read_lookups::listed` meets its contract: the number is not among those passed. Assumes nothing.
+-- `read_scopes::listed` meets its contract: the number is not among those passed. Assumes nothing.
 use borrow.Author.Needs.{needs}
 use mathlib.Core.Path.{_≡_, sym, ap, _∙_}
 use mathlib.Core.Bool.{false}

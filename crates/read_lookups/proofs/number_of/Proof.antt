@@ -1,4 +1,4 @@
--- `read_lookups::number_of` meets its contract: the number is not among those passed. Assumes nothing.
+-- `read_scopes::number_of` meets its contract: the number is not among those passed. Assumes nothing.
 use borrow.Author.Needs.{needs}
 use mathlib.Core.Path.{_≡_}
 use Prim.Native.Nat.{ℕ, _<_, _≤_, _-_}

@@ -1,4 +1,4 @@
--- `read_nodes::start` meets its contract: the root has no child. Assumes nothing.
+-- `read_names::start` meets its contract: the root has no child. Assumes nothing.
 use mathlib.Core.Path.{refl}
 use native.Mathlib.Omega.{arith}
 use Rattle.read_nodes.specs.Starting.{trie-start}

@@ -1,4 +1,4 @@
--- `read_trie::child_of` meets its contract: what has the cell is further on in the chain. Assumes nothing.
+-- `read_names::child_of` meets its contract: what has the cell is further on in the chain. Assumes nothing.
 use borrow.Author.Needs.{needs}
 use mathlib.Core.Path.{refl}
 use Prim.Native.Nat.{_<_, _+_, _*_}

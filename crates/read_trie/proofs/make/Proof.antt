@@ -1,5 +1,5 @@
 use mathlib.Core.Path.{_∙_, refl}
--- `read_trie::make` meets its contract: four entries are written. Assumes nothing.
+-- `read_names::make` meets its contract: four entries are written. Assumes nothing.
 use native.Mathlib.Omega.{arith}
 use Rattle.read_trie.specs.Outcome.{made}
 use borrow.Author.Needs.{needs}
