@@ -1,0 +1,5 @@
+pub mod Nodes
+pub mod Rules
+pub mod Words
+pub mod Keeping
+pub mod Examples

@@ -1,0 +1,1 @@
+// No code: the state after a step, and laws.
