@@ -1,0 +1,4 @@
+pub mod Outcomes
+pub mod Handed
+pub mod Calls
+pub mod OnBytes
