@@ -1,2 +1,3 @@
 pub mod Any
 pub mod OnBytes
+pub mod Demand3

@@ -11,10 +11,18 @@ use Rattle.runs.specs.Outcomes.{outcomes}
 use Rattle.runs.specs.RunHolds.{RunHolds}
 use Rattle.store_form.specs.State.{State, program-of, names-of, config-of}
 use Rattle.store_form.specs.Form.{store-bytes}
+use Rattle.store_form.specs.Holding.{Fits}
 use Rattle.store_form.proofs.Keeping.{with-config}
 use Rattle.store_steps.specs.After.{Stands}
 use Rattle.store_calls.specs.Outcomes.{held}
 use Rattle.store_calls.specs.Calls.{ByteCall, bytes-after, outcomes-on, meant}
+
+-- A state that a run begins with: it has bytes, and means the program, the query's names and the start.
+pub record Begins (limit : ℕ) (s : State) (P : Program) (query : Query) (c : Config) : Type 0 where
+  pub program : program-of s ≡ P
+  pub names : names-of s ≡ query .variables
+  pub config : config-of s ≡ c
+  pub fits : Fits limit s
 
 -- The calls ks on a slice that begins with the bytes of the state s and goes on with rest.
 module _ (limit work : ℕ) (s : State) (rest : List ℕ) (ks : List ByteCall) where
