@@ -8,7 +8,7 @@ use Prim.Native.Nat.{ℕ, _≤_}
 use native.Mathlib.Omega.{arith}
 use lib.Dec.{T, ltb}
 use lib.ListN.{length, take, drop}
-use Rattle.akl.specs.Base.{Result, refused, ok, when, _>>=_}
+use Rattle.akl.specs.Base.{size, nth, Result, refused, ok, when, _>>=_}
 use Rattle.akl.specs.StepsText.{Step, read-steps}
 use Rattle.akl.specs.Answers.{answer, state}
 use Rattle.runs.specs.Outcomes.{Outcome, refusal, accepted, shown, stands}
@@ -18,7 +18,8 @@ use Rattle.store_form.specs.Holding.{Holds, read-store}
 use Rattle.store_form.proofs.Reading.{holds-read}
 use Rattle.store_steps.specs.After.{Stands, state-after, states-after}
 use Rattle.store_calls.specs.Outcomes.{Called, called, slices-short, held, on-held, on-state, step-done, step-outcome, run-done, run-read, run-outcome, answer-done, answer-outcome, state-outcome}
-use Rattle.store_calls.specs.Calls.{Asked, for-step, for-run, for-answer, for-state, ByteCall, asked-outcome, call-outcome}
+use Rattle.store_calls.specs.Around.{Kept}
+use Rattle.store_calls.specs.Calls.{Asked, for-step, for-run, for-answer, for-state, ByteCall, asked-outcome, call-outcome, bytes-after, outcomes-on}
 
 -- a number of an option and of an outcome, to tell two forms apart
 none-is-not : {A : Type 0} (a : A) → _≡_ {A = Option A} none (some a) → ⊥
@@ -80,9 +81,6 @@ text-first limit work b w t n e = ap (run-read limit work b w) e
 -- ---------------------------------------------------------------------------------------------
 -- "A refused step or call of one piece changes no store".
 
-abbrev pub Kept : List ℕ → Called → Type 0
-Kept b r = (n : ℕ) → r .told ≡ refusal n → r .store ≡ b
-
 kept-held : (limit work : ℕ) (b : List ℕ) (w : ℕ) (f : State → Called) → ((s : State) → Kept b (f s)) → Kept b (on-state limit work b w f)
 unfolding on-state
 kept-held limit work b w f k = go (slices-short limit work b w) (held limit b)
@@ -114,3 +112,17 @@ refused-kept limit work b k = go (k .asked)
     go (for-run t) = kept-run limit work b (k .working) (read-steps t)
     go (for-answer n m) = kept-held limit work b (k .working) (λ s. answer-done b (answer (names-of s) (s .config .root) n m)) (λ s. kept-answer b (answer (names-of s) (s .config .root) n m))
     go for-state = kept-held limit work b (k .working) (λ s. called (stands (state (s .config .root))) b) (λ s n e. refl)
+
+-- ---------------------------------------------------------------------------------------------
+-- A list of calls, cut at one of them: it is made on the bytes that those before it left.
+
+module _ (limit work : ℕ) where
+  pub bytes-cut : (js : List ByteCall) (k : ByteCall) (ls : List ByteCall) (b : List ℕ) → bytes-after limit work b (js ++ (k ∷ ls)) ≡ bytes-after limit work (call-outcome limit work (bytes-after limit work b js) k .store) ls
+  unfolding bytes-after
+  bytes-cut [] k ls b = refl
+  bytes-cut (j ∷ js) k ls b = bytes-cut js k ls (call-outcome limit work b j .store)
+
+  pub told-cut : (js : List ByteCall) (k : ByteCall) (ls : List ByteCall) (b : List ℕ) → nth (outcomes-on limit work b (js ++ (k ∷ ls))) (size js) ≡ some (call-outcome limit work (bytes-after limit work b js) k .told)
+  unfolding bytes-after outcomes-on nth size
+  told-cut [] k ls b = refl
+  told-cut (j ∷ js) k ls b = told-cut js k ls (call-outcome limit work b j .store)

@@ -59,6 +59,7 @@ module _ (limit : ℕ) (low : limit < 65536) (rules text : List ℕ) (P : Progra
             ∙ ap (λ (d : Config). outcomes limit P (query .variables) d calls) (B .config);
         bytes = on .bytes ∙ ap (λ (d : Config). store-bytes limit (with-config s d) ++ rest) end;
         holds = on .holds ∙ ap (λ (d : Config). some (with-config s d)) end;
+        stand = subst (λ (d : Config). Stands limit (with-config s d)) end (on .stand);
         run = run-holds limit rules text P query c rp rq rs calls;
       }
 

@@ -3,13 +3,13 @@
 use mathlib.Core.Path.{_≡_, refl, ap, sym, _∙_, subst}
 use mathlib.Core.List.{List, [], _∷_, _++_, map}
 use mathlib.Core.Bool.{Bool, true, false, _||_}
-use mathlib.Core.Option.{some}
+use mathlib.Core.Option.{Option, some, none}
 use Prim.Native.Nat.{ℕ, _<_, _≤_}
 use native.Mathlib.Omega.{arith}
 use lib.Dec.{T, ltb, ltb→lt}
 use lib.ListN.{length, take, drop, length-append}
 use lib.Seq.{take-append-seam, drop-append-seam}
-use Rattle.akl.specs.Base.{Name, Result, refused, ok}
+use Rattle.akl.specs.Base.{Name, Result, refused, ok, when, _>>=_}
 use Rattle.akl.specs.Syntax.{Program}
 use Rattle.akl.specs.StepsText.{Step, read-steps}
 use Rattle.akl.specs.Configuration.{Config}
@@ -19,10 +19,11 @@ use Rattle.runs.specs.Calls.{Call, one-step, steps-text, stepped, texted, after
 use Rattle.runs.specs.Outcomes.{Outcome, refusal, accepted, shown, stands, outcome, outcomes}
 use Rattle.runs.specs.Outcomes as runs
 use Rattle.store_form.specs.Sizes.{store-length}
-use Rattle.store_form.specs.State.{State, program-of, names-of, config-of}
+use Rattle.store_form.specs.State.{State, program-of, names-of, config-of, well-formed-state}
 use Rattle.store_form.specs.Form.{store-bytes}
+use Rattle.store_form.specs.Holding.{Fits, read-store}
 use Rattle.store_form.proofs.Keeping.{with-config}
-use Rattle.store_form.proofs.Reading.{bytes-length}
+use Rattle.store_form.proofs.Reading.{bytes-length, store-back}
 use Rattle.store_steps.specs.After as after
 use Rattle.store_steps.specs.After.{Stands, with-result, state-after, Stepped, states-after}
 use Rattle.store_steps.proofs.Keeping.{steps-mean, calls-stand}
@@ -31,7 +32,7 @@ use Rattle.store_calls.specs.Calls.{Asked, for-step, for-run, for-answer
 use Rattle.store_calls.specs.OnBytes.{OnBytes}
 use Rattle.store_calls.proofs.Any.{held-iff, short-first, some-held}
 
-not-below : (x y : ℕ) → y ≤ x → ltb x y ≡ false
+pub not-below : (x y : ℕ) → y ≤ x → ltb x y ≡ false
 not-below x y h = go (ltb x y) refl
   where
     go : (u : Bool) → ltb x y ≡ u → u ≡ false
@@ -43,9 +44,9 @@ module _ (limit : ℕ) (low : limit < 65536) (work : ℕ) (rest : List ℕ) wher
   abbrev slice : State → List ℕ
   slice s = store-bytes limit s ++ rest
 
-  module _ (s : State) (w : Stands limit s) where
+  module _ (s : State) (F : Fits limit s) where
     long : length (store-bytes limit s) ≡ store-length limit
-    long = bytes-length limit (omega arith) s (w .fits)
+    long = bytes-length limit (omega arith) s F
 
     front : take (store-length limit) (slice s) ≡ store-bytes limit s
     front = subst (λ (n : ℕ). take n (slice s) ≡ store-bytes limit s) long (take-append-seam (store-bytes limit s) rest)
@@ -53,19 +54,31 @@ module _ (limit : ℕ) (low : limit < 65536) (work : ℕ) (rest : List ℕ) wher
     behind : drop (store-length limit) (slice s) ≡ rest
     behind = subst (λ (n : ℕ). drop n (slice s) ≡ rest) long (drop-append-seam (store-bytes limit s) rest)
 
-    -- The slice holds the state,
-    pub begin-held : held limit (slice s) ≡ some s
-    begin-held = held-iff limit (omega arith) (slice s) s .1 (record { is = front; fits = w .fits }, w .formed)
-
-    -- is long enough,
-    enough : (v : ℕ) (u : Bool) → ltb v work ≡ u → slices-short limit work (slice s) v ≡ u
+    -- It is long enough,
+    pub begin-long : (v : ℕ) (u : Bool) → ltb v work ≡ u → slices-short limit work (slice s) v ≡ u
     unfolding slices-short
-    enough v u e = ap (λ (x : Bool). x || ltb v work) (not-below (length (slice s)) (store-length limit) (omega (arith, long, length-append (store-bytes limit s) rest))) ∙ e
+    begin-long v u e = ap (λ (x : Bool). x || ltb v work) (not-below (length (slice s)) (store-length limit) (omega (arith, long, length-append (store-bytes limit s) rest))) ∙ e
+
+    -- holds nothing where the state is not well formed,
+    pub begin-unformed : well-formed-state limit s ≡ false → held limit (slice s) ≡ none
+    unfolding held
+    begin-unformed e =
+        ap (λ (l : List ℕ). read-store limit l >>= λ t. when (well-formed-state limit t) t) front
+        ∙ ap (λ (o : Option State). o >>= λ t. when (well-formed-state limit t) t) (store-back limit (omega arith) s F)
+        ∙ ap (λ (u : Bool). when u s) e
+
+  module _ (s : State) (w : Stands limit s) where
+    -- holds the state where it is,
+    pub begin-held : held limit (slice s) ≡ some s
+    begin-held = held-iff limit (omega arith) (slice s) s .1 (record { is = front s (w .fits); fits = w .fits }, w .formed)
 
     -- and with another state's bytes is the slice of that one.
     put-slice : (t : State) → put-state limit (slice s) t ≡ slice t
     unfolding put-state
-    put-slice t = ap (λ (r : List ℕ). store-bytes limit t ++ r) behind
+    put-slice t = ap (λ (r : List ℕ). store-bytes limit t ++ r) (behind s (w .fits))
+
+    enough : (v : ℕ) (u : Bool) → ltb v work ≡ u → slices-short limit work (slice s) v ≡ u
+    enough v u e = begin-long s (w .fits) v u e
 
     -- what a call on the configuration comes to, as bytes
     abbrev expected : Call → Called

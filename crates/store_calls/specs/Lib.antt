@@ -1,4 +1,5 @@
 pub mod Outcomes
 pub mod Handed
 pub mod Calls
+pub mod Around
 pub mod OnBytes

@@ -50,4 +50,5 @@ module _ (limit work : ℕ) (s : State) (rest : List ℕ) (ks : List ByteCall) w
     pub told : outcomes-on limit work begin ks ≡ outcomes limit P (query .variables) c calls
     pub bytes : bytes-after limit work begin ks ≡ store-bytes limit (with-config s (after-calls limit P c calls)) ++ rest
     pub holds : held limit (bytes-after limit work begin ks) ≡ some (with-config s (after-calls limit P c calls))
+    pub stand : Stands limit (with-config s (after-calls limit P c calls))
     pub run : RunHolds limit P query c calls
