@@ -1,35 +1,26 @@
--- Calls on any bytes: what is refused, and that a refused call leaves the bytes as they were.
+-- Calls on any bytes: what is held, in which order refusals come, and lists of calls cut in two.
 use mathlib.Core.Path.{_≡_, refl, ap, sym, _∙_, subst}
 use mathlib.Core.Logic.{_↔_}
 use mathlib.Core.List.{List, [], _∷_, _++_}
-use mathlib.Core.Bool.{Bool, true, false, _||_}
+use mathlib.Core.Bool.{Bool, true, false}
 use mathlib.Core.Option.{Option, some, none, Option·some-injective}
 use Prim.Native.Nat.{ℕ, _≤_}
 use native.Mathlib.Omega.{arith}
-use lib.Dec.{T, ltb}
-use lib.ListN.{length, take, drop}
+use lib.Dec.{T}
+use lib.ListN.{take}
 use Rattle.akl.specs.Base.{size, nth, Result, refused, ok, when, _>>=_}
-use Rattle.akl.specs.StepsText.{Step, read-steps}
-use Rattle.akl.specs.Answers.{answer, state}
-use Rattle.runs.specs.Outcomes.{Outcome, refusal, accepted, shown, stands}
+use Rattle.akl.specs.StepsText.{read-steps}
+use Rattle.runs.specs.Outcomes.{refusal}
 use Rattle.store_form.specs.Sizes.{store-length}
-use Rattle.store_form.specs.State.{State, names-of, well-formed-state}
+use Rattle.store_form.specs.State.{State, well-formed-state}
 use Rattle.store_form.specs.Holding.{Holds, read-store}
 use Rattle.store_form.proofs.Reading.{holds-read}
-use Rattle.store_steps.specs.After.{Stands, state-after, states-after}
-use Rattle.store_calls.specs.Outcomes.{Called, called, slices-short, held, on-held, on-state, step-done, step-outcome, run-done, run-read, run-outcome, answer-done, answer-outcome, state-outcome}
-use Rattle.store_calls.specs.Around.{Kept}
-use Rattle.store_calls.specs.Calls.{Asked, for-step, for-run, for-answer, for-state, ByteCall, asked-outcome, call-outcome, bytes-after, outcomes-on}
+use Rattle.store_steps.specs.After.{Stands}
+use Rattle.store_calls.specs.Outcomes.{Called, called, slices-short, held, on-held, on-state, run-read, run-outcome}
+use Rattle.store_calls.specs.Calls.{ByteCall, call-outcome, bytes-after, outcomes-on}
 
--- a number of an option and of an outcome, to tell two forms apart
 none-is-not : {A : Type 0} (a : A) → _≡_ {A = Option A} none (some a) → ⊥
 none-is-not {A} a e = let z : _≡_ {A = ℕ} 0 1 = ap (λ (o : Option A). elim o as (λ v. ℕ) [ none ↦ 0 | some x ↦ 1 ]) e in omega arith
-
-abbrev form : Outcome → ℕ
-form (refusal n) = 0
-form (accepted n r) = 1
-form (shown t) = 2
-form (stands s) = 3
 
 -- The state that a slice holds: its first bytes are that state's, and it is well formed; and none otherwise.
 pub held-iff : (limit : ℕ) → limit ≤ 65536 → (b : List ℕ) (s : State) → (held limit b ≡ some s) ↔ (Holds limit (take (store-length limit) b) s × T (well-formed-state limit s))
@@ -76,42 +67,7 @@ module _ (limit work : ℕ) (b : List ℕ) (w : ℕ) (f : State → Called) wher
 -- A steps text that is refused for itself is refused before its slices and its store are looked at.
 pub text-first : (limit work : ℕ) (b : List ℕ) (w : ℕ) (t : List ℕ) (n : ℕ) → read-steps t ≡ refused n → run-outcome limit work b w t ≡ called (refusal n) b
 unfolding run-outcome
-text-first limit work b w t n e = ap (run-read limit work b w) e
-
--- ---------------------------------------------------------------------------------------------
--- "A refused step or call of one piece changes no store".
-
-kept-held : (limit work : ℕ) (b : List ℕ) (w : ℕ) (f : State → Called) → ((s : State) → Kept b (f s)) → Kept b (on-state limit work b w f)
-unfolding on-state
-kept-held limit work b w f k = go (slices-short limit work b w) (held limit b)
-  where
-    go : (u : Bool) (o : Option State) → Kept b (on-held b f u o)
-    go true o n e = refl
-    go false none n e = refl
-    go false (some s) n e = k s n e
-
-kept-step : (limit : ℕ) (b : List ℕ) (r : Result State) → Kept b (step-done limit b r)
-kept-step limit b (refused m) n e = refl
-kept-step limit b (ok s) n e = absurd (let z : _≡_ {A = ℕ} 1 0 = ap form e in omega arith)
-
-kept-answer : (b : List ℕ) (r : Result (List ℕ)) → Kept b (answer-done b r)
-kept-answer b (refused m) n e = refl
-kept-answer b (ok t) n e = refl
-
-kept-run : (limit work : ℕ) (b : List ℕ) (w : ℕ) (r : Result (List Step)) → Kept b (run-read limit work b w r)
-kept-run limit work b w (refused m) n e = refl
-kept-run limit work b w (ok ks) n e = kept-held limit work b w (λ s. run-done limit b (states-after limit s 0 ks)) (λ s m g. absurd (let z : _≡_ {A = ℕ} 1 0 = ap form g in omega arith)) n e
-
--- Whatever the bytes, a call that is refused leaves them as they were.
-pub refused-kept : (limit work : ℕ) (b : List ℕ) (k : ByteCall) → Kept b (call-outcome limit work b k)
-unfolding call-outcome step-outcome run-outcome answer-outcome state-outcome
-refused-kept limit work b k = go (k .asked)
-  where
-    go : (a : Asked) → Kept b (asked-outcome limit work b (k .working) a)
-    go (for-step x) = kept-held limit work b (k .working) (λ s. step-done limit b (state-after limit s x)) (λ s. kept-step limit b (state-after limit s x))
-    go (for-run t) = kept-run limit work b (k .working) (read-steps t)
-    go (for-answer n m) = kept-held limit work b (k .working) (λ s. answer-done b (answer (names-of s) (s .config .root) n m)) (λ s. kept-answer b (answer (names-of s) (s .config .root) n m))
-    go for-state = kept-held limit work b (k .working) (λ s. called (stands (state (s .config .root))) b) (λ s n e. refl)
+text-first limit work b w t n e = ap (run-read limit _ b w) e
 
 -- ---------------------------------------------------------------------------------------------
 -- A list of calls, cut at one of them: it is made on the bytes that those before it left.

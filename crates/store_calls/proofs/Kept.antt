@@ -21,7 +21,7 @@ use Rattle.store_steps.specs.After.{Stands, state-after, Stepped, stepped, stat
 use Rattle.store_steps.proofs.Keeping.{after-stands, steps-stand}
 use Rattle.store_calls.specs.Outcomes.{Called, called, slices-short, held, put-state, on-held, on-state, step-done, step-outcome, run-done, run-read, run-outcome, answer-done, answer-outcome, state-outcome}
 use Rattle.store_calls.specs.Calls.{Asked, for-step, for-run, for-answer, for-state, ByteCall, asked-outcome, call-outcome}
-use Rattle.store_calls.specs.Around.{SameAround}
+use Rattle.store_calls.specs.Around.{Kept, SameAround}
 use Rattle.store_calls.specs.OnBytes.{OnBytes}
 use Rattle.store_calls.proofs.Any.{held-iff, held-stands}
 use Rattle.store_calls.proofs.OnBytes.{calls-on-bytes}
@@ -125,3 +125,45 @@ none-accepted-kept limit low work b w t r e = read (read-steps t) e
     read : (q : Result (List Step)) → run-read limit work b w q .told ≡ accepted 0 r → run-read limit work b w q .store ≡ b
     read (refused n) g = refl
     read (ok ks) g = go ks (slices-short limit work b w) (held limit b) refl g
+
+-- ---------------------------------------------------------------------------------------------
+-- "A refused step or call of one piece changes no store".
+
+-- a number for each form of outcome, to tell them apart
+abbrev form : Outcome → ℕ
+form (refusal n) = 0
+form (accepted n r) = 1
+form (shown t) = 2
+form (stands s) = 3
+
+kept-held : (limit work : ℕ) (b : List ℕ) (w : ℕ) (f : State → Called) → ((s : State) → Kept b (f s)) → Kept b (on-state limit work b w f)
+unfolding on-state
+kept-held limit work b w f k = go (slices-short limit work b w) (held limit b)
+  where
+    go : (u : Bool) (o : Option State) → Kept b (on-held b f u o)
+    go true o n e = refl
+    go false none n e = refl
+    go false (some s) n e = k s n e
+
+kept-step : (limit : ℕ) (b : List ℕ) (r : Result State) → Kept b (step-done limit b r)
+kept-step limit b (refused m) n e = refl
+kept-step limit b (ok s) n e = absurd (let z : _≡_ {A = ℕ} 1 0 = ap form e in omega arith)
+
+kept-answer : (b : List ℕ) (r : Result (List ℕ)) → Kept b (answer-done b r)
+kept-answer b (refused m) n e = refl
+kept-answer b (ok t) n e = refl
+
+kept-run : (limit work : ℕ) (b : List ℕ) (w : ℕ) (r : Result (List Step)) → Kept b (run-read limit work b w r)
+kept-run limit work b w (refused m) n e = refl
+kept-run limit work b w (ok ks) n e = kept-held limit work b w (λ s. run-done limit b (states-after limit s 0 ks)) (λ s m g. absurd (let z : _≡_ {A = ℕ} 1 0 = ap form g in omega arith)) n e
+
+-- Whatever the bytes, a call that is refused leaves them as they were.
+pub refused-kept : (limit work : ℕ) (b : List ℕ) (k : ByteCall) → Kept b (call-outcome limit work b k)
+unfolding call-outcome step-outcome run-outcome answer-outcome state-outcome
+refused-kept limit work b k = go (k .asked)
+  where
+    go : (a : Asked) → Kept b (asked-outcome limit work b (k .working) a)
+    go (for-step x) = kept-held limit work b (k .working) (λ s. step-done limit b (state-after limit s x)) (λ s. kept-step limit b (state-after limit s x))
+    go (for-run t) = kept-run limit work b (k .working) (read-steps t)
+    go (for-answer n m) = kept-held limit work b (k .working) (λ s. answer-done b (answer (names-of s) (s .config .root) n m)) (λ s. kept-answer b (answer (names-of s) (s .config .root) n m))
+    go for-state = kept-held limit work b (k .working) (λ s. called (stands (state (s .config .root))) b) (λ s n e. refl)

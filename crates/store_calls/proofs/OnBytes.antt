@@ -100,25 +100,25 @@ module _ (limit : ℕ) (low : limit < 65536) (work : ℕ) (rest : List ℕ) wher
 
     run-case : (v : ℕ) (u : Bool) → ltb v work ≡ u → (t : List ℕ) (r : Result (List Step)) → read-steps t ≡ r → run-read limit work (slice s) v r ≡ expected (run-meant t u r)
     run-case v u e t (refused n) q = sym (ap (λ (r : Result (List Step)). called (runs.text-outcome limit (program-of s) (config-of s) r) (slice (with-config s (texted limit (program-of s) (config-of s) r)))) q)
-    run-case v true e t (ok ks) q = short-first limit work (slice s) v (λ x. run-done limit (slice s) (states-after limit x 0 ks)) (enough v true e)
+    run-case v true e t (ok ks) q = short-first limit work (slice s) v _ (enough v true e)
     run-case v false e t (ok ks) q =
-        some-held limit work (slice s) v (λ x. run-done limit (slice s) (states-after limit x 0 ks)) (enough v false e) s begin-held
+        some-held limit work (slice s) v _ (enough v false e) s begin-held
         ∙ steps-case ks
         ∙ sym (ap (λ (r : Result (List Step)). called (runs.text-outcome limit (program-of s) (config-of s) r) (slice (with-config s (texted limit (program-of s) (config-of s) r)))) q)
 
     asked-case : (v : ℕ) (u : Bool) → ltb v work ≡ u → (a : Asked) → asked-outcome limit work (slice s) v a ≡ expected (asked-meant u a)
     unfolding step-outcome run-outcome answer-outcome state-outcome state-after
-    asked-case v true e (for-step k) = short-first limit work (slice s) v (λ x. step-done limit (slice s) (state-after limit x k)) (enough v true e)
+    asked-case v true e (for-step k) = short-first limit work (slice s) v _ (enough v true e)
     asked-case v false e (for-step k) =
-        some-held limit work (slice s) v (λ x. step-done limit (slice s) (state-after limit x k)) (enough v false e) s begin-held
+        some-held limit work (slice s) v _ (enough v false e) s begin-held
         ∙ step-case (step limit (program-of s) (config-of s) k)
     asked-case v u e (for-run t) = run-case v u e t (read-steps t) refl
-    asked-case v true e (for-answer n m) = short-first limit work (slice s) v (λ x. answer-done (slice s) (answer (names-of x) (x .config .root) n m)) (enough v true e)
+    asked-case v true e (for-answer n m) = short-first limit work (slice s) v _ (enough v true e)
     asked-case v false e (for-answer n m) =
-        some-held limit work (slice s) v (λ x. answer-done (slice s) (answer (names-of x) (x .config .root) n m)) (enough v false e) s begin-held
+        some-held limit work (slice s) v _ (enough v false e) s begin-held
         ∙ answer-case (answer (names-of s) (config-of s .root) n m)
-    asked-case v true e for-state = short-first limit work (slice s) v (λ x. called (stands (state (x .config .root))) (slice s)) (enough v true e)
-    asked-case v false e for-state = some-held limit work (slice s) v (λ x. called (stands (state (x .config .root))) (slice s)) (enough v false e) s begin-held
+    asked-case v true e for-state = short-first limit work (slice s) v _ (enough v true e)
+    asked-case v false e for-state = some-held limit work (slice s) v _ (enough v false e) s begin-held
 
     -- One call.
     pub call-on-bytes : (k : ByteCall) → call-outcome limit work (slice s) k ≡ expected (meant work k)
