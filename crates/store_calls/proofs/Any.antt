@@ -8,7 +8,7 @@ use Prim.Native.Nat.{ℕ, _≤_}
 use native.Mathlib.Omega.{arith}
 use lib.Dec.{T}
 use lib.ListN.{take}
-use Rattle.akl.specs.Base.{size, nth, Result, refused, ok, when, _>>=_}
+use Rattle.akl.specs.Base.{size, nth, refused, when, _>>=_}
 use Rattle.akl.specs.StepsText.{read-steps}
 use Rattle.runs.specs.Outcomes.{refusal}
 use Rattle.store_form.specs.Sizes.{store-length}

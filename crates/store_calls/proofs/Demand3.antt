@@ -1,7 +1,7 @@
 -- Demand 3 said of bytes: over every list of calls on the bytes of a query's start.
 use mathlib.Core.Path.{_≡_, refl, ap, sym, _∙_, subst}
 use mathlib.Core.List.{List, [], _++_, map}
-use mathlib.Core.Option.{Option, some}
+use mathlib.Core.Option.{some}
 use Prim.Native.Nat.{ℕ, _<_}
 use native.Mathlib.Omega.{arith}
 use lib.Dec.{T}
@@ -12,21 +12,18 @@ use Rattle.akl.specs.Reader.{Query, read-program, read-query}
 use Rattle.akl.specs.Configuration.{Config}
 use Rattle.akl.specs.Record.{start}
 use Rattle.akl.specs.WellFormed.{well-formed}
-use Rattle.runs.specs.Calls.{Call, after-calls}
-use Rattle.runs.specs.Outcomes.{Outcome, outcomes}
-use Rattle.runs.specs.RunHolds.{RunHolds}
+use Rattle.runs.specs.Calls.{after-calls}
+use Rattle.runs.specs.Outcomes.{outcomes}
 use Rattle.runs.proofs.Demand3.{run-holds}
 use Rattle.mem_words.specs.declared.Word.{Word}
-use Rattle.store_form.specs.State.{State, program-of, names-of, config-of, well-formed-state}
+use Rattle.store_form.specs.State.{State, program-of, names-of, config-of}
 use Rattle.store_form.specs.Form.{store-bytes}
-use Rattle.store_form.specs.Holding.{Fits}
 use Rattle.store_form.proofs.Keeping.{with-config}
 use Rattle.store_start.specs.Start.{Left, start-state}
 use Rattle.store_start.proofs.Starting.{start-names, start-fits, start-means}
 use Rattle.store_steps.specs.After.{Stands}
-use Rattle.store_calls.specs.Outcomes.{held}
-use Rattle.store_calls.specs.Calls.{ByteCall, bytes-after, outcomes-on, meant}
-use Rattle.store_calls.specs.OnBytes.{Begins, OnBytes, RunOnBytes}
+use Rattle.store_calls.specs.Calls.{ByteCall, meant}
+use Rattle.store_calls.specs.OnBytes.{Begins, RunOnBytes}
 use Rattle.store_calls.proofs.OnBytes.{calls-on-bytes}
 
 -- For any limit on the parts that two bytes hold.

@@ -1,17 +1,16 @@
 -- Calls on the bytes of document 01's record, and on bytes that hold nothing.
-use mathlib.Core.Path.{_≡_, refl, ap, sym, _∙_, subst}
+use mathlib.Core.Path.{_≡_, refl, _∙_}
 use mathlib.Core.List.{List, [], _∷_, _++_, map}
-use mathlib.Core.Bool.{Bool, true, false, _||_}
-use mathlib.Core.Option.{Option, some, none}
+use mathlib.Core.Bool.{true, false}
+use mathlib.Core.Option.{none}
 use Prim.Native.Nat.{ℕ}
 use native.Mathlib.Omega.{arith}
-use lib.Dec.{T, ltb}
-use lib.ListN.{length, drop}
-use Rattle.akl.specs.Base.{bytes, if}
+use lib.Dec.{ltb}
+use Rattle.akl.specs.Base.{bytes}
 use Rattle.akl.specs.Limits.{most-parts}
 use Rattle.akl.specs.Computed.{everything}
 use Rattle.akl.specs.StepsText.{Step}
-use Rattle.akl.specs.Configuration.{or, and, nil}
+use Rattle.akl.specs.Configuration.{and, nil}
 use Rattle.akl.specs.Answers.{final, open-state}
 use Rattle.read_nodes.specs.Spell.{spell, named}
 use Rattle.runs.specs.Outcomes.{Outcome, refusal, accepted, shown, stands, outcomes}

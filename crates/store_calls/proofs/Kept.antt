@@ -6,7 +6,7 @@ use mathlib.Core.Bool.{Bool, true, false}
 use mathlib.Core.Option.{Option, some, none}
 use Prim.Native.Nat.{ℕ, suc, _<_, _≤_}
 use native.Mathlib.Omega.{arith}
-use lib.ListN.{length, take, drop, length-append, length-take, length-drop, take-append-drop}
+use lib.ListN.{length, drop, length-append, take-append-drop}
 use lib.Seq.{drop-append-seam}
 use Rattle.akl.specs.Base.{Result, refused, ok}
 use Rattle.akl.specs.StepsText.{Step, read-steps}
@@ -17,7 +17,7 @@ use Rattle.store_form.specs.State.{State, names-of}
 use Rattle.store_form.specs.Form.{store-bytes}
 use Rattle.store_form.specs.Holding.{Fits}
 use Rattle.store_form.proofs.Reading.{bytes-length}
-use Rattle.store_steps.specs.After.{Stands, state-after, Stepped, stepped, states-after}
+use Rattle.store_steps.specs.After.{state-after, Stepped, stepped, states-after}
 use Rattle.store_steps.proofs.Keeping.{after-stands, steps-stand}
 use Rattle.store_calls.specs.Outcomes.{Called, called, slices-short, held, put-state, on-held, on-state, step-done, step-outcome, run-done, run-read, run-outcome, answer-done, answer-outcome, state-outcome}
 use Rattle.store_calls.specs.Calls.{Asked, for-step, for-run, for-answer, for-state, ByteCall, asked-outcome, call-outcome}

@@ -9,14 +9,13 @@ use native.Mathlib.Omega.{arith}
 use lib.Dec.{T, ltb, ltb→lt}
 use lib.ListN.{length, take, drop, length-append}
 use lib.Seq.{take-append-seam, drop-append-seam}
-use Rattle.akl.specs.Base.{Name, Result, refused, ok, when, _>>=_}
-use Rattle.akl.specs.Syntax.{Program}
+use Rattle.akl.specs.Base.{Result, refused, ok, when, _>>=_}
 use Rattle.akl.specs.StepsText.{Step, read-steps}
 use Rattle.akl.specs.Configuration.{Config}
 use Rattle.akl.specs.Step.{step, steps}
 use Rattle.akl.specs.Answers.{answer, state}
-use Rattle.runs.specs.Calls.{Call, one-step, steps-text, stepped, texted, after-call, after-calls}
-use Rattle.runs.specs.Outcomes.{Outcome, refusal, accepted, shown, stands, outcome, outcomes}
+use Rattle.runs.specs.Calls.{Call, stepped, texted, after-call, after-calls}
+use Rattle.runs.specs.Outcomes.{Outcome, refusal, accepted, stands, outcome, outcomes}
 use Rattle.runs.specs.Outcomes as runs
 use Rattle.store_form.specs.Sizes.{store-length}
 use Rattle.store_form.specs.State.{State, program-of, names-of, config-of, well-formed-state}
@@ -24,10 +23,9 @@ use Rattle.store_form.specs.Form.{store-bytes}
 use Rattle.store_form.specs.Holding.{Fits, read-store}
 use Rattle.store_form.proofs.Keeping.{with-config}
 use Rattle.store_form.proofs.Reading.{bytes-length, store-back}
-use Rattle.store_steps.specs.After as after
-use Rattle.store_steps.specs.After.{Stands, with-result, state-after, Stepped, states-after}
+use Rattle.store_steps.specs.After.{Stands, with-result, state-after, states-after}
 use Rattle.store_steps.proofs.Keeping.{steps-mean, calls-stand}
-use Rattle.store_calls.specs.Outcomes.{Called, called, slices-short, held, put-state, on-state, step-done, step-outcome, run-done, run-read, run-outcome, answer-done, answer-outcome, state-outcome}
+use Rattle.store_calls.specs.Outcomes.{Called, called, slices-short, held, put-state, step-done, step-outcome, run-done, run-read, run-outcome, answer-done, answer-outcome, state-outcome}
 use Rattle.store_calls.specs.Calls.{Asked, for-step, for-run, for-answer, for-state, ByteCall, asked-outcome, call-outcome, bytes-after, outcomes-on, run-meant, asked-meant, meant}
 use Rattle.store_calls.specs.OnBytes.{OnBytes}
 use Rattle.store_calls.proofs.Any.{held-iff, short-first, some-held}

@@ -3,10 +3,8 @@
 -- text that a call hands back.
 use mathlib.Core.Path.{_≡_, refl, ap, sym, _∙_, subst}
 use mathlib.Core.List.{List, [], _∷_, _++_, map}
-use mathlib.Core.Bool.{Bool, true, false}
+use mathlib.Core.Bool.{Bool, false}
 use Prim.Native.Nat.{ℕ, _<_, _≤_}
-use native.Mathlib.Omega.{arith}
-use lib.Dec.{T, ltb}
 use Rattle.constraint.specs.Constraint.{Asg}
 use Rattle.akl.specs.Base.{Name, size, ok}
 use Rattle.akl.specs.Syntax.{Program}
@@ -16,7 +14,7 @@ use Rattle.akl.specs.Record.{start}
 use Rattle.akl.specs.Answers.{Terms, state}
 use Rattle.akl.specs.Answers as answers
 use Rattle.theory.specs.Meaning.{QuerySolution}
-use Rattle.runs.specs.Calls.{Call, ask-answer, ask-state, after-calls, calls-moves, NoPruning, Ended}
+use Rattle.runs.specs.Calls.{Call, ask-answer, after-calls, calls-moves, NoPruning, Ended}
 use Rattle.runs.specs.Outcomes.{Outcome, refusal, accepted, shown, stands, outcome}
 use Rattle.runs.specs.Shown.{FitsText, ReadsAs}
 use Rattle.runs.specs.CallHolds.{AnswerHolds}

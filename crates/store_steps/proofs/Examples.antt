@@ -6,8 +6,7 @@ use Rattle.akl.specs.Base.{Result, refused, ok}
 use Rattle.akl.specs.Limits.{most-parts}
 use Rattle.akl.specs.Computed.{everything}
 use Rattle.akl.specs.StepsText.{Step}
-use Rattle.akl.specs.Configuration.{Config}
-use Rattle.akl.specs.Answers.{final, open-state, state}
+use Rattle.akl.specs.Answers.{final, state}
 use Rattle.layout.specs.Layout.{var-word, vars-words, ask, con-words, stmt-words, program-words}
 use Rattle.read_nodes.specs.Spell.{spell, named}
 use Rattle.store_words.specs.Boxes.{local-words, store-words, node-words}

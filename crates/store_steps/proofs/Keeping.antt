@@ -5,9 +5,7 @@ use mathlib.Core.List.{List, [], _∷_}
 use mathlib.Core.Option.{some}
 use Prim.Native.Nat.{ℕ, suc, _<_}
 use native.Mathlib.Omega.{arith}
-use lib.Dec.{T}
-use Rattle.akl.specs.Base.{Name, Result, refused, ok}
-use Rattle.akl.specs.Syntax.{Program}
+use Rattle.akl.specs.Base.{Result, refused, ok}
 use Rattle.akl.specs.StepsText.{Step}
 use Rattle.akl.specs.Configuration.{Config}
 use Rattle.akl.specs.Step.{step, Run, steps}
@@ -15,11 +13,11 @@ use Rattle.theory.specs.Formed.{Formed}
 use Rattle.theory.proofs.Reflect.{formed-iff}
 use Rattle.accept.proofs.Accepted.{accepts-iff}
 use Rattle.accept.proofs.StepTheorem.{step-formed}
-use Rattle.runs.specs.Calls.{Call, Move, after-calls, calls-moves, Chain, steps-moves}
+use Rattle.runs.specs.Calls.{Call, Move, after-calls, calls-moves, Chain}
 use Rattle.runs.proofs.Runs.{calls-chain}
 use Rattle.store_form.specs.State.{State, table, program-of, config-of, names-of}
 use Rattle.store_form.specs.Form.{store-bytes}
-use Rattle.store_form.specs.Holding.{Fits, read-store}
+use Rattle.store_form.specs.Holding.{read-store}
 use Rattle.store_form.specs.Named.{InTable}
 use Rattle.store_form.proofs.Keeping.{with-config, fits-with}
 use Rattle.store_form.proofs.Reading.{store-back}

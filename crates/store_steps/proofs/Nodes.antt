@@ -9,8 +9,8 @@ use native.Mathlib.Omega.{arith}
 use lib.Dec.{eqb}
 use Rattle.constraint.specs.Constraint.{Con, ctrue, cfail, ceq, capp, mapCon, Store}
 use Rattle.akl.specs.Base.{Name, same, if}
-use Rattle.akl.specs.Syntax.{Var, Stmt, atom, call, comp, hide, choice, Clauses, no-more, clause, Def, Program, defined, open-var, opened, opened-clauses}
-use Rattle.akl.specs.Configuration.{Kind, Node, or, and, stmt, choice-box, guard, Nodes, nil, cons, _+n_, Ctx, top, in-or, in-and, in-choice, in-guard, plug}
+use Rattle.akl.specs.Syntax.{Var, Stmt, atom, call, comp, hide, choice, Clauses, no-more, clause, Program, defined, open-var, opened, opened-clauses}
+use Rattle.akl.specs.Configuration.{Kind, Node, or, and, choice-box, guard, Nodes, nil, cons, _+n_, Ctx, top, in-or, in-and, in-choice, in-guard, plug}
 use Rattle.akl.specs.Rules.{stored, fresh, guarded-goals}
 use Rattle.store_form.specs.Named.{NamedCon, NamedStore, NamedStmt, NamedClauses, NamedNode, NamedNodes}
 use Rattle.store_steps.specs.Named.{NamedProgram}

@@ -1,10 +1,8 @@
 -- No rule brings in a name: those of the goal after it are among those of the program and of the goal before.
 use mathlib.Core.Path.{_≡_, sym, _∙_, subst}
-use mathlib.Core.Logic.{inl, inr}
-use mathlib.Core.List.{List, [], _∷_, _++_}
 use Prim.Native.Nat.{ℕ}
 use Rattle.akl.specs.Base.{Name, size, ok}
-use Rattle.akl.specs.Syntax.{Program, comp, hide, choice, atom, call}
+use Rattle.akl.specs.Syntax.{Program, comp, hide, atom}
 use Rattle.akl.specs.StepsText.{Step}
 use Rattle.akl.specs.Configuration.{Kind, Node, or, and, stmt, choice-box, guard, nil, cons, one, failure, Ctx, plug, Config}
 use Rattle.akl.specs.Places.{Place}

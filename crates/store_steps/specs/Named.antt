@@ -1,5 +1,5 @@
 -- Every name in a program is a K: those of its definitions and those in their bodies. Assumes nothing.
-use mathlib.Core.List.{List, [], _∷_}
+use mathlib.Core.List.{[], _∷_}
 use Rattle.akl.specs.Base.{Name}
 use Rattle.akl.specs.Syntax.{Program}
 use Rattle.store_form.specs.Named.{NamedStmt}
