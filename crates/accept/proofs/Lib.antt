@@ -8,3 +8,4 @@ pub mod Accepted
 pub mod StepTheorem
 pub mod StaysStable
 pub mod Losses
+pub mod StoresDown
