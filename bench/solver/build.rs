@@ -1,8 +1,8 @@
-//! Links the solver that `rt staticlib solve_bench` wrote.
+//! Links the solver that `rt staticlib work_bench` wrote.
 
 fn main() {
     let top = std::env::var("CARGO_MANIFEST_DIR").expect("set by cargo");
     println!("cargo:rustc-link-search=native={top}/../../target/staticlib");
-    println!("cargo:rustc-link-lib=static=solve_bench");
-    println!("cargo:rerun-if-changed={top}/../../target/staticlib/libsolve_bench.a");
+    println!("cargo:rustc-link-lib=static=work_bench");
+    println!("cargo:rerun-if-changed={top}/../../target/staticlib/libwork_bench.a");
 }

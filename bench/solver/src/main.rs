@@ -12,29 +12,17 @@ use std::time::Instant;
 const ROUNDS: usize = 200;
 
 extern "C" {
-    /// crates/solve_bench: a slice is passed as its address and its length.
+    /// crates/work_bench: a slice is passed as its address and its length.
     fn solver_judge(
         words: *const u8,
         words_len: usize,
+        locals: *const u8,
+        locals_len: usize,
+        slice: *mut u8,
+        slice_len: usize,
         from: usize,
         mid: usize,
         to: usize,
-        locals: *const u8,
-        locals_len: usize,
-        pos: *mut u8,
-        pos_len: usize,
-        cells: *mut u8,
-        cells_len: usize,
-        vars: *mut u8,
-        vars_len: usize,
-        olds: *mut u8,
-        olds_len: usize,
-        marks: *mut u8,
-        marks_len: usize,
-        stack: *mut u8,
-        stack_len: usize,
-        dones: *mut u8,
-        dones_len: usize,
     ) -> u32;
 }
 
@@ -64,59 +52,29 @@ fn words(constraints: &[Constraint]) -> Vec<u8> {
     out
 }
 
-/// The verified solver's tables, for 2,048 applications and 32,768 changes.
-struct Tables {
-    locals: Vec<u8>,
-    pos: Vec<u8>,
-    cells: Vec<u8>,
-    vars: Vec<u8>,
-    olds: Vec<u8>,
-    marks: Vec<u8>,
-    stack: Vec<u8>,
-    dones: Vec<u8>,
-}
+/// The working slice of the verified solver.
+struct Slice(Vec<u8>);
 
-impl Tables {
-    fn new() -> Tables {
-        let zeros = |n: usize| vec![0; n];
-        Tables {
-            locals: zeros(65_535),
-            pos: zeros(4 * 2_048),
-            cells: zeros(3 * 65_535),
-            vars: zeros(2 * 32_768),
-            olds: zeros(3 * 32_768),
-            marks: zeros(2 * 2_048),
-            stack: zeros(2 * 2_048),
-            dones: zeros(4 * 2_048),
-        }
+impl Slice {
+    fn new() -> Slice {
+        Slice(vec![0; 524_288])
     }
 
-    /// The answer's number for the first `mid` words as environment and the others as store.
+    /// The answer's number for the first `mid` words as environment and the others as store, without locals.
     fn judge(&mut self, words: &[u8], mid: usize) -> u32 {
+        let locals: [u8; 0] = [];
         // Each pointer comes with the length of the slice it points to, and no two slices overlap.
         unsafe {
             solver_judge(
                 words.as_ptr(),
                 words.len(),
+                locals.as_ptr(),
+                locals.len(),
+                self.0.as_mut_ptr(),
+                self.0.len(),
                 0,
                 mid,
                 words.len() / 3,
-                self.locals.as_ptr(),
-                self.locals.len(),
-                self.pos.as_mut_ptr(),
-                self.pos.len(),
-                self.cells.as_mut_ptr(),
-                self.cells.len(),
-                self.vars.as_mut_ptr(),
-                self.vars.len(),
-                self.olds.as_mut_ptr(),
-                self.olds.len(),
-                self.marks.as_mut_ptr(),
-                self.marks.len(),
-                self.stack.as_mut_ptr(),
-                self.stack.len(),
-                self.dones.as_mut_ptr(),
-                self.dones.len(),
             )
         }
     }
@@ -145,10 +103,10 @@ fn equations(n: usize) -> Vec<Constraint> {
     (0..n).map(|i| same(i, i + 1)).collect()
 }
 
-/// Half of them terms with eight arguments, the other half equations that make them meet in turn.
+/// Half of them terms with eight arguments out of a thousand variables, the other half equations that make them meet in turn.
 fn wide(n: usize) -> Vec<Constraint> {
     let terms = n / 2;
-    let arguments = |i: usize| -> Vec<usize> { (0..8).map(|k| 4_000 + 8 * i + k).collect() };
+    let arguments = |i: usize| -> Vec<usize> { (0..8).map(|k| 4_000 + (8 * i + k) % 1_000).collect() };
     let mut all: Vec<Constraint> = (0..terms).map(|i| built(i, &arguments(i))).collect();
     all.extend((1..terms).map(|i| same(i - 1, i)));
     all
@@ -168,13 +126,13 @@ fn measure(constraints: &[Constraint]) -> (f64, f64) {
     all.push(same(0, 0));
     let words = words(&all);
     let store = &all[constraints.len()..];
-    let mut tables = Tables::new();
+    let mut slice = Slice::new();
     let mut solver = Solver::default();
     solver.reserve(65_535);
     let (mut ours, mut theirs) = (f64::INFINITY, f64::INFINITY);
     for _ in 0..ROUNDS {
         let begin = Instant::now();
-        let answer = black_box(tables.judge(black_box(&words), mid));
+        let answer = black_box(slice.judge(black_box(&words), mid));
         ours = ours.min(begin.elapsed().as_secs_f64() * 1e6);
         assert_eq!(answer, 2, "quiet");
 

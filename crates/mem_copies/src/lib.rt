@@ -7,7 +7,7 @@ ghost use Rattle.mem_copies.specs.Open.{Opened, CanOpen};
 use mem_words::Word;
 
 // Copies the `n` bytes of `src` from `from` on to `dst` from `at` on.
-fn copy_bytes(src: &[u8], from: usize, n: usize, dst: &mut [u8], at: usize)
+pub fn copy_bytes(src: &[u8], from: usize, n: usize, dst: &mut [u8], at: usize)
     requires { ⌜ CanCopy (now src) from n (now dst) at ⌝ }
     ensures { λ _. ⌜ Copied (now (dst .entry)) at (drop from (now (src .entry))) n (now (dst .exit)) ⌝ }
 {

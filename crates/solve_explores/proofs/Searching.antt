@@ -22,7 +22,7 @@ use Rattle.solve_classes.specs.Means.{bound, Fits, Apps}
 use Rattle.solve_classes.proofs.Tables.{formOf, fits-form, bound-yes}
 use Rattle.solve_classes.proofs.Linking.{apps-at}
 use Rattle.solve_fields.specs.Read.{varOf, isVar, argsOf, argsAt, labelAt, termAt, tabOf}
-use Rattle.solve_meets.proofs.Meeting.{args-more, args-done, var-inside}
+use Rattle.solve_tells.proofs.Meeting.{args-more, args-done, var-inside}
 use Rattle.solve_explores.specs.Search.{cellOf, Leads, Ends, Settled, Lower, white, whites, left, Frame, Search, Cyclic, Acyclic, Marked}
 
 -- marks of what is done stay: then what is settled stays settled

@@ -1,2 +1,4 @@
+pub mod Owning
+pub mod Viewing
 pub mod Verdict
 pub mod Quietness

@@ -1,8 +1,9 @@
 -- What the quiet test finds is the definition. Assumes nothing.
 use mathlib.Core.Path.{_≡_, refl, ap, sym, _∙_, subst}
 use mathlib.Core.Logic.{_↔_, _⊎_, inl, inr, ite, if-pos, if-neg}
+use mathlib.Core.Bool.{true}
 use mathlib.Core.List.{List, [], _∷_, _++_}
-use Prim.Native.Nat.{ℕ, zero, suc, _+_, _-_, _/_, _%_, _≤_, _<_}
+use Prim.Native.Nat.{ℕ, zero, suc, _+_, _-_, _*_, _/_, _%_, _≤_, _<_}
 use native.Mathlib.Omega.{arith}
 use native.Mathlib.Decide.{ℕ-discrete}
 use lib.ListN.{length, getD}
@@ -15,22 +16,25 @@ use Rattle.mem_words.specs.declared.Word.{Word}
 use Rattle.solve_cells.specs.Cells.{rep, par, Up}
 use Rattle.solve_cells.specs.Trail.{rewind, rewind-at, CanUndo}
 use Rattle.solve_classes.specs.Means.{bound, Fits}
+use Rattle.solve_classes.specs.Weights.{weights-in}
 use Rattle.solve_cells.proofs.Climb.{rep-root, next-root, root-rep}
 use Rattle.solve_classes.proofs.Tables.{formOf, fits-form, bound-yes, bound-no}
 use Rattle.solve_classes.proofs.Linking.{root-cell}
 use Rattle.solve_fields.specs.Read.{termAt, tabOf}
 use Rattle.solve_tells.specs.Tells.{State, Means, Left}
 use Rattle.solve_explores.specs.Search.{Acyclic, Cyclic}
-use Rattle.solve_owners.specs.Owners.{Cand, Outer, Alone, Owning, Loud, Marks, Looking}
-use Rattle.solve_quiet.specs.Solver.{Marking, Before, Calmed, Kept}
-use Rattle.solve_trails.specs.Reach.{varsOf}
-use Rattle.solve_trails.specs.Steps.{Filled}
-use Rattle.solve_trails.proofs.Trails.{vars-of, filled-short}
+use Rattle.solve_explores.specs.Since.{TestedSince}
+use Rattle.solve_quiet.specs.Owners.{Cand, Outer, Alone, Owning, Loud, Marks, Looking}
+use Rattle.solve_quiet.specs.Solver.{Marking, Before, Calmed, Kept, Tight, Crowded}
+use Rattle.solve_tells.specs.Draws.{Drawn}
+use Rattle.solve_tells.specs.Steps.{Filled}
+use Rattle.solve_tells.proofs.Trails.{vars-of}
+use Rattle.solve_tells.proofs.Rooms.{within-drawn, old-drawn}
 use Rattle.solve_quiet.specs.declared.Calm.the-variants.{Silent, Loudly, NoSpace}
-use Rattle.solve_owners.specs.declared.Owned.{Owned}
-use Rattle.solve_owners.specs.declared.Owned.the-variants.{Apart, Joint, NoPlace}
+use Rattle.solve_quiet.specs.declared.Owned.{Owned}
+use Rattle.solve_quiet.specs.declared.Owned.the-variants.{Apart, Joint, NoPlace}
 use Rattle.solve_quiet.proofs.Verdict.{ranked, form-of}
-use Rattle.solve_owners.proofs.Owning.{four, marks-of}
+use Rattle.solve_quiet.proofs.Owning.{four, marks-of}
 
 -- an application is no unbound class
 term-bound : (lab : ℕ → Label) (W : List Word) (P : List ℕ) (k : ℕ) → tabOf lab W P k ≡ free → ⊥
@@ -157,11 +161,26 @@ calmed-cyclic W L P T X C n a n₀ U c = record { right = λ P₀ T₀ X₀ C₀
 pub calmed-joint : (W : List Word) (L P T X C : List ℕ) (n a n₀ : ℕ) → Up T → Loud L T X C n₀ n → Calmed W L P T X C n a n₀ Loudly
 calmed-joint W L P T X C n a n₀ U l = record { right = λ P₀ T₀ X₀ C₀ a₀ lab vs env σ B mk m. found-loud W L P T X C n a n₀ P₀ T₀ X₀ C₀ a₀ lab vs env σ U B mk m l }
 
-pub calmed-apart : (W : List Word) (L P T X C : List ℕ) (n a n₀ : ℕ) → Up T → Acyclic W P T → (O X′ C′ : List ℕ) (k : ℕ) → Owning L T X C n₀ n O X′ C′ n k → Calmed W L P T X C n a n₀ Silent
-calmed-apart W L P T X C n a n₀ U A O X′ C′ k w = record { right = λ P₀ T₀ X₀ C₀ a₀ lab vs env σ B mk m. silent W L P T X C n a n₀ P₀ T₀ X₀ C₀ a₀ lab vs env σ U B mk m A O X′ C′ k w }
+pub calmed-apart : (W : List Word) (L P T X C : List ℕ) (n a n₀ : ℕ) → Up T → TestedSince W P T X C n a n₀ true → (O X′ C′ : List ℕ) (k : ℕ) → Owning L T X C n₀ n O X′ C′ n k → Calmed W L P T X C n a n₀ Silent
+calmed-apart W L P T X C n a n₀ U A O X′ C′ k w = record { right = λ P₀ T₀ X₀ C₀ a₀ lab vs env σ B mk m. silent W L P T X C n a n₀ P₀ T₀ X₀ C₀ a₀ lab vs env σ U B mk m (A P₀ T₀ X₀ C₀ a₀ (B .left) (B .state) (B .acyclic)) O X′ C′ k w }
 
 pub calmed-none : (W : List Word) (L P T X C : List ℕ) (n a n₀ : ℕ) (O X′ C′ : List ℕ) (k : ℕ) → State W P T X C n a → Marks T X C n O X′ C′ k → Filled X C k → Calmed W L P T X C n a n₀ NoSpace
-calmed-none W L P T X C n a n₀ O X′ C′ k s w f = filled-short W T O X C k (w .grown .sizeT) (w .within (varsOf W) (s .used) (s .sound .within)) (omega (arith, s .cost, w .cost)) f
+calmed-none W L P T X C n a n₀ O X′ C′ k s w f vs o t = go f
+  where
+    most : k ≤ 3 * length vs
+    most = omega (arith, s .cost, w .cost, weights-in vs O (w .within vs o t .cells))
+
+    go : Filled X C k → Tight vs X C
+    go (inl h) = inl (omega (arith, most))
+    go (inr h) = inr (omega (arith, most))
+
+-- so there is an answer where the trail has room for the different variables of the words and 2
+pub crowded-never : (W : List Word) (P T X C : List ℕ) (n a : ℕ) (vs : List ℕ) → State W P T X C n a → Crowded T X C n → Drawn W vs → 3 * length vs + 2 ≤ length X → 3 * length vs + 2 ≤ length C → ⊥
+crowded-never W P T X C n a vs s k d x y = go (k vs (old-drawn W vs X 0 n d (s .used)) (within-drawn W vs T d (s .sound .within)))
+  where
+    go : Tight vs X C → ⊥
+    go (inl h) = omega arith
+    go (inr h) = omega arith
 
 -- owners are taken back
 pub kept-none : (T X C : List ℕ) (n : ℕ) → Kept T X C n T X C

@@ -18,7 +18,7 @@ use Rattle.solve_classes.specs.Means.{bound, Fits, Apps, OldVars, OldIn}
 use Rattle.solve_cells.proofs.Climb.{rep-root, next-root}
 use Rattle.solve_classes.proofs.Tables.{formOf, fits-form, bound-yes, bound-no}
 use Rattle.solve_fields.specs.Read.{argsAt, labelAt, termAt, tabOf, Vars}
-use Rattle.solve_trails.specs.Steps.{Sound}
+use Rattle.solve_tells.specs.Steps.{Sound}
 use Rattle.solve_tells.specs.Tells.{State, Means}
 use Rattle.solve_explores.specs.Search.{cellOf, Acyclic, Cyclic, Tested}
 use Rattle.solve_quiet.specs.Solver.{Solved}

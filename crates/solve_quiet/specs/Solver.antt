@@ -1,19 +1,19 @@
 -- The verdicts of the solver, by the definitions. Assumes nothing.
 use mathlib.Core.Path.{_≡_}
-use mathlib.Core.Logic.{_↔_}
+use mathlib.Core.Logic.{_↔_, _⊎_}
 use mathlib.Core.Bool.{Bool, true, false}
 use mathlib.Core.List.{List, _++_}
-use Prim.Native.Nat.{ℕ, _+_, _≤_, _<_}
+use Prim.Native.Nat.{ℕ, _+_, _*_, _≤_, _<_}
 use lib.ListN.{length, getD}
 use Rattle.mem_numbers.specs.Decides.{Decides}
 use Rattle.constraint.specs.Tree.{Label}
 use Rattle.constraint.specs.Constraint.{Asg, Store, Sats, Satisfiable, Quiet, In, Fresh}
 use Rattle.mem_words.specs.declared.Word.{Word}
 use Rattle.solve_fields.specs.Read.{Distinct}
-use Rattle.solve_trails.specs.Steps.{Short}
+use Rattle.solve_classes.specs.Means.{OldIn, Within}
 use Rattle.solve_tells.specs.Tells.{State, Means, Left}
 use Rattle.solve_explores.specs.Search.{Fitting, Tested, Acyclic}
-use Rattle.solve_owners.specs.Owners.{Outer, CanLookAll}
+use Rattle.solve_quiet.specs.Owners.{Outer, CanLookAll}
 use Rattle.solve_quiet.specs.declared.Calm.{Calm}
 use Rattle.solve_quiet.specs.declared.Calm.the-variants.{Silent, Loudly, NoSpace}
 
@@ -38,11 +38,19 @@ pub record Before (W : List Word) (P T X C : List ℕ) (n a : ℕ) (lab : ℕ �
 pub record Since (W : List Word) (L P T X C : List ℕ) (n a n₀ : ℕ) (Q : List ℕ → Store → Store → Type 0) : Type 0 where
   pub right : (P₀ T₀ X₀ C₀ : List ℕ) (a₀ : ℕ) (lab : ℕ → Label) (vs : List ℕ) (env σ : Store) → Before W P T X C n a lab vs env P₀ T₀ X₀ C₀ n₀ a₀ → Marking L vs → Means lab W P T (env ++ σ) → Q vs env σ
 
--- the answer to whether what was told since the mark n₀ is quiet; there is none only if the trail is too short for the words
+-- the trail is too short for the variables vs: it has not 3 entries for each and 2 more
+abbrev pub Tight : List ℕ → List ℕ → List ℕ → Type 0
+Tight vs X C = (length X < 3 * length vs + 2) ⊎ (length C < 3 * length vs + 2)
+
+-- and is so for every list that has the touched variables
+abbrev pub Crowded : List ℕ → List ℕ → List ℕ → ℕ → Type 0
+Crowded T X C n = (vs : List ℕ) → OldIn X 0 n vs → Within vs T → Tight vs X C
+
+-- the answer to whether what was told since the mark n₀ is quiet; there is none only if the trail is too short
 abbrev pub Calmed : List Word → List ℕ → List ℕ → List ℕ → List ℕ → List ℕ → ℕ → ℕ → ℕ → Calm → Type 0
 Calmed W L P T X C n a n₀ Silent = Since W L P T X C n a n₀ Quiet
 Calmed W L P T X C n a n₀ Loudly = Since W L P T X C n a n₀ (λ vs env σ. Quiet vs env σ → ⊥)
-Calmed W L P T X C n a n₀ NoSpace = Short W T X C
+Calmed W L P T X C n a n₀ NoSpace = Crowded T X C n
 
 -- what the quiet test needs
 pub record CanCalm (W : List Word) (L P T X C M K D : List ℕ) (n a n₀ : ℕ) : Type 0 where

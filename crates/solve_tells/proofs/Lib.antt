@@ -1,3 +1,9 @@
+pub mod Trails
+pub mod Meeting
+pub mod Holding
+pub mod Settling
+pub mod Taking
 pub mod Ranges
 pub mod Counts
 pub mod Telling
+pub mod Rooms

@@ -20,14 +20,14 @@ use Rattle.solve_classes.specs.Means.{bound, Fits, Apps, OldVars, OldIn}
 use Rattle.solve_classes.proofs.Tables.{bound-yes, bound-no}
 use Rattle.solve_classes.proofs.Linking.{apps-at}
 use Rattle.solve_fields.specs.Read.{termAt, tabOf, Distinct, Vars, starts}
-use Rattle.solve_trails.specs.Reach.{varsOf}
-use Rattle.solve_trails.specs.Steps.{Step, Sound, Filled, Short}
-use Rattle.solve_trails.specs.declared.Went.{Went}
-use Rattle.solve_trails.specs.declared.Went.the-variants.{On, Clash, Full}
-use Rattle.solve_trails.proofs.Trails.{step-none, step-then, vars-split, in-split, filled-then, filled-short, short-then}
+use Rattle.solve_tells.specs.Reach.{varsOf}
+use Rattle.solve_tells.specs.Steps.{Step, Sound}
+use Rattle.solve_tells.specs.declared.Went.{Went}
+use Rattle.solve_tells.specs.declared.Went.the-variants.{On, Clash, Full}
+use Rattle.solve_tells.proofs.Trails.{step-none, step-then, vars-split, in-split, filled-then}
 use Rattle.solve_begins.specs.Begins.{beginsOf}
-use Rattle.solve_takes.specs.Takes.{Took, Taking}
-use Rattle.solve_tells.specs.Tells.{State, Means, Left, Done, Clashed, Stopped, Telling, Back, oneAt, rangeOf, appsAt, appsIn}
+use Rattle.solve_tells.specs.Takes.{Took, Taking}
+use Rattle.solve_tells.specs.Tells.{State, Means, Left, Done, Clashed, Lacks, Stopped, Telling, Back, oneAt, rangeOf, appsAt, appsIn}
 use Rattle.solve_tells.specs.declared.Told.{Told}
 use Rattle.solve_tells.specs.declared.Told.the-variants.{All, Failed, NoRoom}
 use Rattle.solve_tells.proofs.Counts.{app-one, apps-more, apps-split}
@@ -115,13 +115,13 @@ module _ (W : List Word) (P T X C : List ℕ) (n a : ℕ) (s : State W P T X C n
       K′ = subst (Taking W P₁ T X C n b Q T′ X′ C′) e K
 
   pub one-full : o ≡ Full n′ → Stopped W P T X C n a k P₁ T′ X′ C′ n′ a₁
-  one-full e = record { left = record { step = K′ .0; more = le; sizeP = z; oldP = h }; full = inl (K′ .1); short = inl (filled-short W T T′ X C n′ (K′ .0 .grown .sizeT) (K′ .0 .within) (omega (arith, s .cost, K′ .0 .cost)) (K′ .1)) }
+  one-full e = record { left = record { step = K′ .0; more = le; sizeP = z; oldP = h }; full = inl (K′ .1) }
     where
       K′ : Taking W P₁ T X C n b Q T′ X′ C′ (Full n′)
       K′ = subst (Taking W P₁ T X C n b Q T′ X′ C′) e K
 
 pub no-apps : (W : List Word) (P T X C : List ℕ) (n a i b : ℕ) → State W P T X C n a → b ≡ beginsOf (getD W i Bad) → b ≡ 3 → length P ≤ a → Stopped W P T X C n a (appsAt W i) P T X C n a
-no-apps W P T X C n a i b s e z l = record { left = left-none W P T X C n a s; full = inr l; short = inr (omega (arith, app-one W i b e z)) }
+no-apps W P T X C n a i b s e z l = record { left = left-none W P T X C n a s; full = inr (omega (arith, app-one W i b e z)) }
 
 pub left-then : {W : List Word} {P T X C P′ T′ X′ C′ P″ T″ X″ C″ : List ℕ} {n a n′ a′ n″ a″ : ℕ} → Left W P T X C n a P′ T′ X′ C′ n′ a′ → Left W P′ T′ X′ C′ n′ a′ P″ T″ X″ C″ n″ a″ → Left W P T X C n a P″ T″ X″ C″ n″ a″
 left-then p q = record { step = step-then (p .step) (q .step); more = omega (arith, p .more, q .more); sizeP = q .sizeP ∙ p .sizeP; oldP = λ i l. q .oldP i (omega (arith, p .more)) ∙ p .oldP i l }
@@ -164,18 +164,14 @@ module _ (W : List Word) (P T X C : List ℕ) (n a from to i : ℕ) (P′ T′ X
           ∙ ap (λ (r : Store). r ++ rangeOf W (i + 1) to lab) (sym (append-assoc σ (rangeOf W from i lab) (oneAt W i lab)))
 
   pub tell-full : o ≡ NoRoom n″ a″ → Stopped W P T X C n a (appsIn W from to) P″ T″ X″ C″ n″ a″
-  tell-full q = record { left = left-then (D .left) (k .left); full = go (k .full); short = why (k .short) }
+  tell-full q = record { left = left-then (D .left) (k .left); full = go (k .full) }
     where
       k : Stopped W P′ T′ X′ C′ n′ a′ (appsAt W i) P″ T″ X″ C″ n″ a″
       k = subst (Telling W P′ T′ X′ C′ n′ a′ (appsAt W i) (oneAt W i) P″ T″ X″ C″) q K
 
-      go : Filled X′ C′ n″ ⊎ (length P′ ≤ a″) → Filled X C n″ ⊎ (length P ≤ a″)
+      go : Lacks P′ X′ C′ n″ a′ (appsAt W i) → Lacks P X C n″ a (appsIn W from to)
       go (inl f) = inl (filled-then X C X′ C′ n″ (D .left .step .grown .sizeX) (D .left .step .grown .sizeC) f)
-      go (inr f) = inr (omega (arith, D .left .sizeP))
-
-      why : Short W T′ X′ C′ ⊎ (length P′ < a′ + appsAt W i) → Short W T X C ⊎ (length P < a + appsIn W from to)
-      why (inl f) = inl (short-then W T X C T′ X′ C′ (D .left .step .grown .sizeT) (D .left .step .grown .sizeX) (D .left .step .grown .sizeC) f)
-      why (inr f) = inr (omega (arith, D .left .sizeP, D .few, apps-more W from i h (omega arith), apps-split W from (i + 1) to (omega arith) (omega arith)))
+      go (inr f) = inr (omega (arith, D .left .sizeP, D .few, apps-more W from i h (omega arith), apps-split W from (i + 1) to (omega arith) (omega arith)))
 
 old-vars-kept : (X X′ : List ℕ) (n : ℕ) → ((i : ℕ) → i < n → getD X′ i 0 ≡ getD X i 0) → (z : ℕ) → OldVars X 0 n z → OldVars X′ 0 n z
 unfolding OldVars

@@ -12,8 +12,8 @@ use Rattle.mem_words.specs.declared.Word.the-variants.{Bad}
 use Rattle.solve_classes.specs.Means.{Fits, Apps, OldVars, OldIn}
 use Rattle.solve_classes.specs.Weights.{weights}
 use Rattle.solve_fields.specs.Read.{tabOf, Distinct, told, starts}
-use Rattle.solve_trails.specs.Reach.{varsOf}
-use Rattle.solve_trails.specs.Steps.{Step, Sound, Filled, Short}
+use Rattle.solve_tells.specs.Reach.{varsOf}
+use Rattle.solve_tells.specs.Steps.{Step, Sound, Filled}
 use Rattle.solve_tells.specs.declared.Told.{Told}
 use Rattle.solve_tells.specs.declared.Told.the-variants.{All, Failed, NoRoom}
 use Rattle.solve_begins.specs.Begins.{beginsOf}
@@ -75,12 +75,14 @@ pub record Clashed (W : List Word) (P T X C : List ℕ) (n a : ℕ) (S : (ℕ �
   pub left : Left W P T X C n a P′ T′ X′ C′ n′ a′
   pub none : (lab : ℕ → Label) → Distinct lab → (σ : Store) → Means lab W P T σ → (ρ : Asg) → Sats ρ (σ ++ S lab) → ⊥
 
--- there was no room for a change or for an application: the trail is too short for the words, or the table of applications
--- for what was to be told, so neither happens where both are long enough
+-- the trail is full, or there are not places for all of q more applications
+abbrev pub Lacks : List ℕ → List ℕ → List ℕ → ℕ → ℕ → ℕ → Type 0
+Lacks P X C n a q = Filled X C n ⊎ (length P < a + q)
+
+-- there was no room for a change, or for the applications that were to be told
 pub record Stopped (W : List Word) (P T X C : List ℕ) (n a q : ℕ) (P′ T′ X′ C′ : List ℕ) (n′ a′ : ℕ) : Type 0 where
   pub left : Left W P T X C n a P′ T′ X′ C′ n′ a′
-  pub full : Filled X C n′ ⊎ (length P ≤ a′)
-  pub short : Short W T X C ⊎ (length P < a + q)
+  pub full : Lacks P X C n′ a q
 
 abbrev pub Telling : List Word → List ℕ → List ℕ → List ℕ → List ℕ → ℕ → ℕ → ℕ → ((ℕ → Label) → Store) → List ℕ → List ℕ → List ℕ → List ℕ → Told → Type 0
 Telling W P T X C n a q S P′ T′ X′ C′ (All n′ a′) = Done W P T X C n a q S P′ T′ X′ C′ n′ a′

@@ -1,13 +1,14 @@
-// Cells and their trail in one working slice: the contracts are those of `solve_cells`, at the tables of the slice.
+// Cells and their trail in one working slice: the contracts are stated by `solve_cells`, at the tables of the slice.
 ghost use Prim.Native.Nat.{_≤_};
 ghost use lib.ListN.{length};
 ghost use Rattle.mem_numbers.specs.Numbers.{triples};
 ghost use Rattle.mem_parts.specs.Parts.{cut};
 ghost use Rattle.solve_cells.specs.Cells.{Found, CanFind};
 ghost use Rattle.solve_cells.specs.Trail.{CanSave, CanUndo};
-ghost use Rattle.solve_trails.specs.Steps.{Room};
+ghost use Rattle.solve_tells.specs.Steps.{Room};
 ghost use Rattle.work_tables.specs.Tables.{cellsOf, varsOf, oldsOf, Laid};
 ghost use Rattle.work_cells.specs.Saves.{SavedIn, Undone};
+use mem_variables::Variable;
 
 // As `solve_cells::find`, in a part of the slice.
 fn find_in(w: &[u8], a: usize, e: usize, x: usize) -> usize
@@ -18,22 +19,23 @@ fn find_in(w: &[u8], a: usize, e: usize, x: usize) -> usize
 }
 
 // The representative of `x`.
-pub fn find(w: &[u8], x: usize) -> usize
-    requires { ⌜ Laid (now w) × CanFind (cellsOf (now w)) x ⌝ }
-    ensures { λ r. ⌜ Found (cellsOf (now (w .entry))) x r ⌝ }
+pub fn find(w: &[u8], x: Variable) -> Variable
+    requires { ⌜ Laid (now w) × CanFind (cellsOf (now w)) (x .0) ⌝ }
+    ensures { λ r. ⌜ Found (cellsOf (now (w .entry))) (x .0) (r .0) ⌝ }
 {
-    find_in(w, 16384, 212992, x)
+    let r = find_in(w, 16384, 212992, x.0);
+    Variable(r)
 }
 
 // Makes `c` the cell of `x`; the trail's entry `n` keeps what it was.
-pub fn save(w: &mut [u8], n: usize, x: usize, c: usize)
-    requires { ⌜ Laid (now w) × CanSave (cellsOf (now w)) (varsOf (now w)) (oldsOf (now w)) n x c ⌝ }
-    ensures { λ _. ⌜ SavedIn (now (w .entry)) n x c (now (w .exit)) ⌝ }
+pub fn save(w: &mut [u8], n: usize, x: Variable, c: usize)
+    requires { ⌜ Laid (now w) × CanSave (cellsOf (now w)) (varsOf (now w)) (oldsOf (now w)) n (x .0) c ⌝ }
+    ensures { λ _. ⌜ SavedIn (now (w .entry)) n (x .0) c (now (w .exit)) ⌝ }
 {
-    let old = work_trail::cell_get(w, x);
-    work_trail::var_put(w, n, x);
+    let old = work_trail::cell_get(w, x.0);
+    work_trail::var_put(w, n, x.0);
     work_trail::old_put(w, n, old);
-    work_trail::cell_put(w, x, c);
+    work_trail::cell_put(w, x.0, c);
 }
 
 // Takes the changes back that the trail has from `m` on up to `n`, the newest first.
@@ -55,7 +57,7 @@ pub fn roomy(w: &[u8], n: usize) -> bool
     requires { ⌜ Laid (now w) × (n ≤ length (varsOf (now w))) ⌝ }
     ensures { λ r. ⌜ Room (varsOf (now (w .entry))) (oldsOf (now (w .entry))) n r ⌝ }
 {
-    if n < 16383 {
+    if n < 8191 {
         return true;
     }
     false

@@ -1,4 +1,4 @@
-// Classes of variables in one working slice: the contracts are those of `solve_classes`, at the tables of the slice.
+// Classes of variables in one working slice: the contracts are stated by `solve_classes`, at the tables of the slice.
 ghost use mathlib.Core.Path.{_≡_};
 ghost use Prim.Native.Nat.{_≤_, _<_};
 ghost use lib.ListN.{length};
@@ -7,6 +7,7 @@ ghost use Rattle.solve_classes.specs.Means.{Order, CanHang, CanJoin};
 ghost use Rattle.mem_parts.specs.Parts.{cut};
 ghost use Rattle.work_tables.specs.Tables.{cellsOf, varsOf, oldsOf, Laid};
 ghost use Rattle.work_classes.specs.Joins.{CanOrder, JoinedIn};
+use mem_variables::Variable;
 
 // As `solve_classes::below`, in a part of the slice.
 fn below_in(w: &[u8], s: usize, e: usize, a: usize, b: usize) -> bool
@@ -17,24 +18,24 @@ fn below_in(w: &[u8], s: usize, e: usize, a: usize, b: usize) -> bool
 }
 
 // Whether `a` goes below `b`: by rank, then by number.
-pub fn below(w: &[u8], a: usize, b: usize) -> bool
-    requires { ⌜ Laid (now w) × CanOrder (cellsOf (now w)) a b ⌝ }
-    ensures { λ r. ⌜ Order (cellsOf (now (w .entry))) a b r ⌝ }
+pub fn below(w: &[u8], a: Variable, b: Variable) -> bool
+    requires { ⌜ Laid (now w) × CanOrder (cellsOf (now w)) (a .0) (b .0) ⌝ }
+    ensures { λ r. ⌜ Order (cellsOf (now (w .entry))) (a .0) (b .0) r ⌝ }
 {
-    below_in(w, 16384, 212992, a, b)
+    below_in(w, 16384, 212992, a.0, b.0)
 }
 
 // Links the representative `a` below the representative `b`, whose rank rises if it was no higher.
-pub fn hang(w: &mut [u8], n: usize, a: usize, b: usize) -> usize
-    requires { ⌜ Laid (now w) × CanHang (cellsOf (now w)) (varsOf (now w)) (oldsOf (now w)) n a b ⌝ }
-    ensures { λ r. ⌜ JoinedIn (now (w .entry)) n a b (now (w .exit)) r ⌝ }
+pub fn hang(w: &mut [u8], n: usize, a: Variable, b: Variable) -> usize
+    requires { ⌜ Laid (now w) × CanHang (cellsOf (now w)) (varsOf (now w)) (oldsOf (now w)) n (a .0) (b .0) ⌝ }
+    ensures { λ r. ⌜ JoinedIn (now (w .entry)) n (a .0) (b .0) (now (w .exit)) r ⌝ }
 {
     let one = n + 1;
     let two = one + 1;
-    let ra = work_trail::cell_get(w, a) / 4 % 64;
-    let cb = work_trail::cell_get(w, b);
+    let ra = work_trail::cell_get(w, a.0) / 4 % 64;
+    let cb = work_trail::cell_get(w, b.0);
     let rb = cb / 4 % 64;
-    work_cells::save(w, n, a, 1 + ra * 4 + b * 256);
+    work_cells::save(w, n, a, 1 + ra * 4 + b.0 * 256);
     if ra < rb {
         return one;
     }
@@ -46,13 +47,13 @@ pub fn hang(w: &mut [u8], n: usize, a: usize, b: usize) -> usize
 }
 
 // Joins the classes of `x` and `y`. Their bindings are left to the caller: the trail's new entries have them.
-pub fn join(w: &mut [u8], n: usize, x: usize, y: usize) -> usize
-    requires { ⌜ Laid (now w) × CanJoin (cellsOf (now w)) (varsOf (now w)) (oldsOf (now w)) n x y ⌝ }
-    ensures { λ r. ⌜ JoinedIn (now (w .entry)) n x y (now (w .exit)) r ⌝ }
+pub fn join(w: &mut [u8], n: usize, x: Variable, y: Variable) -> usize
+    requires { ⌜ Laid (now w) × CanJoin (cellsOf (now w)) (varsOf (now w)) (oldsOf (now w)) n (x .0) (y .0) ⌝ }
+    ensures { λ r. ⌜ JoinedIn (now (w .entry)) n (x .0) (y .0) (now (w .exit)) r ⌝ }
 {
     let a = work_cells::find(w, x);
     let b = work_cells::find(w, y);
-    if a == b {
+    if a.0 == b.0 {
         return n;
     }
     if below(w, a, b) {

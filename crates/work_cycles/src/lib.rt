@@ -1,5 +1,5 @@
 // Whether the bindings of a table of classes run in a cycle: a search in depth over the applications, with marks and a stack in
-// the working slice. The contracts are those of `solve_cycles`, at the tables of the slice.
+// the working slice. The contracts are stated by `solve_explores`, at the tables of the slice.
 ghost use Prim.Native.Nat.{_≤_};
 ghost use lib.ListN.{length};
 ghost use Rattle.solve_explores.specs.Search.{CanDrain, Cleared, CanTest, Tested};

@@ -1,4 +1,4 @@
-// The search for a cycle from one application in the working slice, depth first, with a stack. The contracts are those of
+// The search for a cycle from one application in the working slice, depth first, with a stack. The contracts are stated by
 // `solve_explores`, at the tables of the slice.
 ghost use Prim.Native.Nat.{_≤_};
 ghost use lib.ListN.{length};
@@ -22,8 +22,8 @@ pub fn look(w: &[u8], used: usize, c: usize) -> Child
     requires { ⌜ Laid (now w) × Logged used × CanLook (logOf used (now w)) (cellsOf (now w)) ⌝ }
     ensures { λ r. ⌜ ChildAt (logOf used (now (w .entry))) (cellsOf (now (w .entry))) c r ⌝ }
 {
-    let e = 303104 + 3 * used;
-    look_in(w, 303104, e, 16384, 212992, c)
+    let e = 262144 + 3 * used;
+    look_in(w, 262144, e, 16384, 212992, c)
 }
 
 // Puts the application `j` onto the stack of height `h`.

@@ -14,8 +14,8 @@ use Rattle.mem_words.specs.declared.Word.the-variants.{End, Free, Level, Num, P
 use Rattle.solve_cells.specs.Cells.{rep}
 use Rattle.solve_classes.specs.Means.{Fits, Apps, bound, Within, OldIn}
 use Rattle.solve_fields.specs.Read.{tabOf, termAt, Vars, argsAt}
-use Rattle.solve_trails.specs.Reach.{varsOf}
-use Rattle.solve_trails.specs.Steps.{Sound, Step}
+use Rattle.solve_tells.specs.Reach.{varsOf}
+use Rattle.solve_tells.specs.Steps.{Sound, Step}
 use Rattle.solve_tells.specs.Tells.{State, Means, Left}
 use Rattle.solve_explores.specs.Search.{Acyclic, cellOf}
 use Rattle.work_grows.specs.Closed.{Closed}
@@ -54,14 +54,21 @@ old-more W R X i n h t a b = in-more W R _ (h t a b)
 pub state-more : (W R : List Word) (P T X C : List ℕ) (n a : ℕ) → Vars (W ++ R) (length T) → length (W ++ R) < 4294967296 → State W P T X C n a → State (W ++ R) P T X C n a
 state-more W R P T X C n a v l s = record {
   sound = record { up = s .sound .up; vars = v; long = l; fitX = s .sound .fitX; fitC = s .sound .fitC; plain = s .sound .plain; within = within-more W R T (s .sound .within) };
-  apps = s .apps; fitP = s .fitP; size = s .size; vars = s .vars; used = old-more W R X 0 n (s .used); cost = s .cost;
+  apps = s .apps;
+  fitP = s .fitP;
+  size = s .size;
+  vars = s .vars;
+  used = old-more W R X 0 n (s .used);
+  cost = s .cost;
 }
 
 -- and what was left by telling is left for more words
 pub left-more : (W R : List Word) (P T X C : List ℕ) (n a : ℕ) (P′ T′ X′ C′ : List ℕ) (n′ a′ : ℕ) → Left W P T X C n a P′ T′ X′ C′ n′ a′ → Left (W ++ R) P T X C n a P′ T′ X′ C′ n′ a′
 left-more W R P T X C n a P′ T′ X′ C′ n′ a′ l = record {
   step = record { grown = l .step .grown; up = l .step .up; vars = l .step .vars; plain = l .step .plain; fitX = l .step .fitX; fitC = l .step .fitC; cost = l .step .cost; within = within-more W R T′ (l .step .within); used = old-more W R X′ n n′ (l .step .used) };
-  more = l .more; sizeP = l .sizeP; oldP = l .oldP;
+  more = l .more;
+  sizeP = l .sizeP;
+  oldP = l .oldP;
 }
 
 tab-more : (lab : ℕ → Label) (W R : List Word) (P : List ℕ) (a : ℕ) → Closed W P a → (j : ℕ) → j < a → tabOf lab (W ++ R) P j ≡ tabOf lab W P j
@@ -79,14 +86,17 @@ bound-more lab W R P T a c hs x = go (ℕ-discrete (getD T x 0 % 4) 2)
 -- what was told means the same for more words
 pub means-more : (lab : ℕ → Label) (W R : List Word) (P T : List ℕ) (a : ℕ) (σ : Store) → Closed W P a → Apps T a → Means lab W P T σ → Means lab (W ++ R) P T σ
 unfolding Means Fits
-means-more lab W R P T a σ c h m ρ =
-    (λ s x. m ρ .0 s x ∙ ap (build ρ (ρ (rep T x))) (sym (bound-more lab W R P T a c h (rep T x))),
-     λ f. m ρ .1 (λ x. f x ∙ ap (build ρ (ρ (rep T x))) (bound-more lab W R P T a c h (rep T x))))
+means-more lab W R P T a σ c h m ρ = (
+  λ s x. m ρ .0 s x ∙ ap (build ρ (ρ (rep T x))) (sym (bound-more lab W R P T a c h (rep T x))),
+  λ f. m ρ .1 (λ x. f x ∙ ap (build ρ (ρ (rep T x))) (bound-more lab W R P T a c h (rep T x))),
+)
 
 -- and has no cycle for more words either
 pub acyclic-more : (W R : List Word) (P T : List ℕ) (a : ℕ) → Closed W P a → Apps T a → Acyclic W P T → Acyclic (W ++ R) P T
 unfolding Apps
 acyclic-more W R P T a c h k = record {
-  rk = k .rk; top = k .top; low = k .low;
+  rk = k .rk;
+  top = k .top;
+  low = k .low;
   down = λ x e y i. k .down x e y (subst (In y) (c .args R (cellOf T x / 256) (h (rep T x) e)) i);
 }

@@ -9,7 +9,7 @@ use Rattle.constraint.specs.Constraint.{Store}
 use Rattle.mem_words.specs.declared.Word.{Word}
 use Rattle.solve_cells.specs.Trail.{rewind, rewind-none}
 use Rattle.solve_classes.specs.Means.{OldVars, OldIn}
-use Rattle.solve_trails.specs.Reach.{varsOf}
+use Rattle.solve_tells.specs.Reach.{varsOf}
 use Rattle.solve_tells.specs.Tells.{State, Means, Left}
 use Rattle.solve_tells.proofs.Telling.{back-tables}
 
@@ -29,8 +29,19 @@ module _ (W₀ W : List Word) (P₀ T₀ X₀ C₀ : List ℕ) (n₀ a₀ : ℕ)
   left-mark = record {
     step = record {
       grown = record { le = omega arith; sizeT = refl; sizeX = l .step .grown .sizeX; sizeC = l .step .grown .sizeC; back = none; oldX = l .step .grown .oldX; oldC = l .step .grown .oldC; tags = λ x. record { unbound = λ e. e }; opens = λ i h g. absurd (omega arith) };
-      up = s .sound .up; vars = vars-none X n₀ (length T₀); plain = λ x e. e; fitX = s .sound .fitX; fitC = s .sound .fitC; cost = omega arith; within = s .sound .within; used = in-none X n₀ (varsOf W₀) };
-    more = omega arith; sizeP = l .sizeP; oldP = l .oldP }
+      up = s .sound .up;
+      vars = vars-none X n₀ (length T₀);
+      plain = λ x e. e;
+      fitX = s .sound .fitX;
+      fitC = s .sound .fitC;
+      cost = omega arith;
+      within = s .sound .within;
+      used = in-none X n₀ (varsOf W₀);
+    };
+    more = omega arith;
+    sizeP = l .sizeP;
+    oldP = l .oldP;
+  }
 
   pub state-mark : State W₀ P T₀ X C n₀ a₀
   state-mark = back-tables W₀ P T₀ X C n₀ n₀ T₀ (sym none) .state P₀ T₀ X₀ C₀ a₀ a₀ left-mark s

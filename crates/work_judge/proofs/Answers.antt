@@ -1,36 +1,34 @@
 -- A store against what was told up to a mark: the laws of the answer. Assumes nothing.
 use mathlib.Core.Path.{_≡_, refl, ap, sym, _∙_, subst}
-use mathlib.Core.Logic.{_⊎_, inl, inr, ite}
 use mathlib.Core.Bool.{Bool, true, false}
 use mathlib.Core.List.{List, [], _∷_, _++_}
 use Prim.Native.Nat.{ℕ, _+_, _-_, _*_, _≤_, _<_}
 use native.Mathlib.Omega.{arith}
-use native.Mathlib.Decide.{decLt}
-use lib.ListN.{length, drop}
-use lib.Seq.{drop-at}
+use lib.ListN.{length}
 use Rattle.constraint.specs.Tree.{Label}
 use Rattle.constraint.specs.Constraint.{Store, Quiet, Fresh, Satisfiable}
 use Rattle.mem_words.specs.declared.Word.{Word}
 use Rattle.mem_copies.specs.Runs.{run}
 use Rattle.solve_fields.specs.Read.{Distinct}
-use Rattle.solve_trails.specs.Reach.{varsOf, reach}
-use Rattle.solve_trails.specs.Steps.{Short}
-use Rattle.solve_tells.specs.Tells.{appsOf, appsIn, Stopped}
+use Rattle.solve_tells.specs.Draws.{Drawn}
+use Rattle.solve_tells.specs.Tells.{State}
 use Rattle.solve_tells.specs.declared.Told.{Told}
 use Rattle.solve_tells.specs.declared.Told.the-variants.{All, Failed, NoRoom}
 use Rattle.solve_explores.specs.Search.{CanTest}
 use Rattle.solve_quiet.specs.Solver.{Solved, Marking, Calmed, CanCalm}
+use Rattle.solve_quiet.proofs.Quietness.{crowded-never}
 use Rattle.solve_quiet.specs.declared.Calm.{Calm}
 use Rattle.solve_quiet.specs.declared.Calm.the-variants.{Silent as CalmSilent, Loudly as CalmLoudly, NoSpace as CalmNoSpace}
-use Rattle.solve_verdicts.specs.declared.Judged.the-variants.{NoSpace, Silent, Loudly}
+use Rattle.work_judge.specs.declared.Judged.the-variants.{NoSpace, Silent, Loudly}
 use Rattle.work_tables.specs.Tables.{cellsOf, varsOf as trailVars, oldsOf, posOf, logOf, marksOf, stackOf, donesOf, localsOf, Laid, Logged, Searched, laid-after, length-log, length-var, length-old, length-pos, length-cell, searched-log, searched-pos, searched-locals}
 use Rattle.mem_parts.specs.Parts.{cut-right}
 use Rattle.work_log.specs.Logs.{stop}
 use Rattle.work_walk.specs.Pushes.{CanPush, Pushed, longer}
-use Rattle.work_marks.specs.Marks.{Mark, trailAt, appsAt, usedAt, allTold, rangeTold, after, Walk}
+use Rattle.work_marks.specs.Marks.{Mark, trailAt, appsAt, usedAt, allTold, rangeTold, appsTold, after, Walk}
+use Rattle.work_marks.proofs.Rooms.{push-room}
 use Rattle.work_marks.proofs.Walking.{walk-can-push, walk-pushed, walk-searched}
 use Rattle.work_marks.proofs.Verdicts.{walk-can-test, walk-satisfiable, walk-can-calm, walk-silent, walk-loud, walk-clash-loud}
-use Rattle.work_judge.specs.Judging.{appsTold, CanAgainst, RoomIn, Against}
+use Rattle.work_judge.specs.Judging.{CanAgainst, RoomIn, Against}
 
 -- what is true at a walk's mark is true of the numbers of the mark
 at-mark : (ms : List Mark) (used n a : ℕ) (Q : ℕ → ℕ → ℕ → Type 0) → usedAt ms ≡ used → trailAt ms ≡ n → appsAt ms ≡ a → Q (usedAt ms) (trailAt ms) (appsAt ms) → Q used n a
@@ -41,7 +39,7 @@ can-test {S} {L} {used} {n} {a} h = at-mark (h .marks) used n a (λ (u m b : ℕ
 
 -- there is no solution: everything is quiet
 pub against-cyclic : (S : List Word) (L : List ℕ) (used n a from len : ℕ) (r : Bool) → r ≡ false → Solved (logOf used L) (posOf L) (cellsOf L) r → Against S L used n a from len Silent
-against-cyclic S L used n a from len r e s = record { fits = tt; right = λ ms w eu en ea lab d vs mk fr ρ t. absurd (none ms w eu lab (ρ , t)) }
+against-cyclic S L used n a from len r e s = record { fits = tt; right = λ ms w eu en ea lab d vs mk fr ρ t. absurd (none ms w eu lab (ρ, t)) }
   where
     none : (ms : List Mark) → Walk L ms → usedAt ms ≡ used → (lab : ℕ → Label) → Satisfiable (allTold lab ms) → ⊥
     none ms w eu lab = walk-satisfiable ms L false w (subst (λ (u : ℕ). Solved (logOf u L) (posOf L) (cellsOf L) false) (sym eu) (subst (Solved (logOf used L) (posOf L) (cellsOf L)) e s)) lab
@@ -74,42 +72,19 @@ can-quiet {S} {L} {Y} {Z} {used} {n} {a} {from} {len} {m} {b} e q h s p =
     let wz : Walk Z (after ms S from len m b ∷ ms) = pushed-walk ms S L Y used n a from len (h .walk) (h .isUsed) (h .isTrail) (h .isApps) s (can-push-after h s) Z m b p in
     let eq : usedAt ms + len + 3 ≡ e = ap (λ (u : ℕ). u + len + 3) (h .isUsed) ∙ sym q in
     subst (λ (k : ℕ). Laid Z × Logged e × CanCalm (logOf e Z) (localsOf Z) (posOf Z) (cellsOf Z) (trailVars Z) (oldsOf Z) (marksOf Z) (stackOf Z) (donesOf Z) m b k) (h .isTrail)
-      (subst (λ (k : ℕ). Laid Z × Logged k × CanCalm (logOf k Z) (localsOf Z) (posOf Z) (cellsOf Z) (trailVars Z) (oldsOf Z) (marksOf Z) (stackOf Z) (donesOf Z) m b (trailAt ms)) eq (walk-can-calm (after ms S from len m b ∷ []) ms Z wz))
+    (subst (λ (k : ℕ). Laid Z × Logged k × CanCalm (logOf k Z) (localsOf Z) (posOf Z) (cellsOf Z) (trailVars Z) (oldsOf Z) (marksOf Z) (stackOf Z) (donesOf Z) m b (trailAt ms)) eq (walk-can-calm (after ms S from len m b ∷ []) ms Z wz))
 
 -- the marks of locals are those at the start
 locals-same : {S : List Word} {L Y Z : List ℕ} {used n a from len : ℕ} {o : Told} → Searched L Y → Pushed S Y used n a from len Z o → localsOf Z ≡ localsOf L
 unfolding localsOf
-locals-same s p = cut-right 376832 442368 (omega arith) (p .rest) ∙ searched-locals s
-
-reach-vars : (W : List Word) (T : List ℕ) → reach W T ≤ length (varsOf W)
-unfolding reach
-reach-vars W T = go (decLt (length T) (length (varsOf W)))
-  where
-    go : (d : Dec (length T < length (varsOf W))) → ite d (length T) (length (varsOf W)) ≤ length (varsOf W)
-    go (yes l) = omega arith
-    go (no l) = omega arith
-
--- the slice's trail is not too short for words with few variables
-short-never : (W : List Word) (T Z : List ℕ) (q : ℕ) → Laid Z → Short W T (trailVars Z) (oldsOf Z) → RoomIn W q → ⊥
-short-never W T Z q h (inl k) r = omega (arith, k, r .trail, reach-vars W T, length-var h)
-short-never W T Z q h (inr k) r = omega (arith, k, r .trail, reach-vars W T, length-old h)
+locals-same s p = cut-right 335872 401408 (omega arith) (p .rest) ∙ searched-locals s
 
 longer-searched : {L Y : List ℕ} (S : List Word) (used from len : ℕ) → Searched L Y → longer S Y used from len ≡ longer S L used from len
 longer-searched S used from len s = ap (λ (v : List Word). v ++ (run from len S ++ stop)) (searched-log used s)
 
-pub apps-range : (S : List Word) (Y : List ℕ) (used from len : ℕ) → Laid Y → used + len + 3 ≤ 24576 → appsIn (longer S Y used from len) used (used + len) ≡ appsTold S from len
-apps-range S Y used from len h r =
-    let l : length (logOf used Y) ≡ used = length-log used h (record { most = omega arith }) in
-    let k : used + len - used ≡ len = omega arith in
-    ap (λ (m : ℕ). appsOf m (drop used (longer S Y used from len))) k ∙ ap (appsOf len) (drop-at (logOf used Y) (run from len S ++ stop) used l)
-
 -- a push on a slice with room does not stop
 pub stop-never : (S : List Word) (Y Z : List ℕ) (used n a from len m b : ℕ) → CanPush S Y used n a from len → Pushed S Y used n a from len Z (NoRoom m b) → RoomIn (longer S Y used from len) (a + appsTold S from len) → ⊥
-stop-never S Y Z used n a from len m b c p r = go (p .told .short)
-  where
-    go : Short (longer S Y used from len) (cellsOf Y) (trailVars Y) (oldsOf Y) ⊎ (length (posOf Y) < a + appsIn (longer S Y used from len) used (used + len)) → ⊥
-    go (inl k) = short-never (longer S Y used from len) (cellsOf Y) Y (a + appsTold S from len) (c .room .laid) k r
-    go (inr k) = omega (arith, k, r .apps, length-pos (c .room .laid), apps-range S Y used from len (c .room .laid) (c .room .room))
+stop-never S Y Z used n a from len m b c p r = push-room (r .vars) c (r .drawn) (r .trail) (r .apps) p
 
 module _ (S : List Word) (L Y Z : List ℕ) (used n a from len : ℕ) (s : Searched L Y) (c : CanPush S Y used n a from len) (v : Solved (logOf used L) (posOf L) (cellsOf L) true) where
   sat : (ms : List Mark) → Walk L ms → usedAt ms ≡ used → (lab : ℕ → Label) → Satisfiable (allTold lab ms)
@@ -120,7 +95,7 @@ module _ (S : List Word) (L Y Z : List ℕ) (used n a from len : ℕ) (s : Searc
     calmed-at ms eu en r k =
         let eq : e ≡ usedAt ms + len + 3 = q ∙ ap (λ (u : ℕ). u + len + 3) (sym eu) in
         subst (λ (i : ℕ). Calmed (logOf (usedAt ms + len + 3) Z) (localsOf Z) (posOf Z) (cellsOf Z) (trailVars Z) (oldsOf Z) m b i r) (sym en)
-          (subst (λ (i : ℕ). Calmed (logOf i Z) (localsOf Z) (posOf Z) (cellsOf Z) (trailVars Z) (oldsOf Z) m b n r) eq k)
+        (subst (λ (i : ℕ). Calmed (logOf i Z) (localsOf Z) (posOf Z) (cellsOf Z) (trailVars Z) (oldsOf Z) m b n r) eq k)
 
     marking : (vs : List ℕ) → Marking (localsOf L) vs → Marking (localsOf Z) vs
     marking vs mk = subst (λ (l : List ℕ). Marking l vs) (sym (locals-same s p)) mk
@@ -135,7 +110,8 @@ module _ (S : List Word) (L Y Z : List ℕ) (used n a from len : ℕ) (s : Searc
     against-full r er k₀ =
         let lz : Laid Z = laid-after (c .room .laid) (p .rest) in
         let ew : logOf e Z ≡ longer S L used from len = ap (λ (i : ℕ). logOf i Z) q ∙ p .log ∙ longer-searched S used from len s in
-        record { fits = (tt, short-never (longer S L used from len) (cellsOf Z) Z (a + appsTold S from len) lz (subst (λ (u : List Word). Short u (cellsOf Z) (trailVars Z) (oldsOf Z)) ew (subst (Calmed (logOf e Z) (localsOf Z) (posOf Z) (cellsOf Z) (trailVars Z) (oldsOf Z) m b n) er k₀))); right = λ ms w eu en ea lab d vs mk fr. tt }
+        let st : State (logOf e Z) (posOf Z) (cellsOf Z) (trailVars Z) (oldsOf Z) m b = subst (λ (u : List Word). State u (posOf Z) (cellsOf Z) (trailVars Z) (oldsOf Z) m b) (sym (ap (λ (i : ℕ). logOf i Z) q ∙ p .log)) (p .told .state) in
+        record { fits = (tt, λ k. crowded-never (logOf e Z) (posOf Z) (cellsOf Z) (trailVars Z) (oldsOf Z) m b (k .vars) st (subst (Calmed (logOf e Z) (localsOf Z) (posOf Z) (cellsOf Z) (trailVars Z) (oldsOf Z) m b n) er k₀) (subst (λ (u : List Word). Drawn u (k .vars)) (sym ew) (k .drawn)) (omega (arith, k .trail, length-var lz)) (omega (arith, k .trail, length-old lz))); right = λ ms w eu en ea lab d vs mk fr. tt }
 
   pub against-clash : (m b : ℕ) → Pushed S Y used n a from len Z (Failed m b) → Against S L used n a from len Loudly
   against-clash m b p = record { fits = tt; right = λ ms w eu en ea lab d vs mk fr. walk-clash-loud [] ms S Y Z from len m b (walk-searched ms L Y w s) (at-walk ms S L Y used n a from len w eu en ea s c) (pushed-at ms S L Y used n a from len w eu en ea s c Z (Failed m b) p) lab d vs fr (sat ms w eu lab) }

@@ -16,7 +16,7 @@ use Rattle.mem_numbers.specs.Stored.{stored-same, stored-other}
 use Rattle.mem_parts.specs.Parts.{Outside, outside-then, Zeroed}
 use Rattle.solve_fields.specs.Read.{Vars}
 use Rattle.solve_fits.specs.Fits.{Bounded}
-use Rattle.solve_owners.specs.Owners.{Outer}
+use Rattle.solve_quiet.specs.Owners.{Outer}
 use Rattle.solve_quiet.specs.Solver.{Marking}
 use Rattle.work_tables.specs.Tables.{localsOf, Laid, laid-after, length-locals}
 use Rattle.work_tables.specs.Writes.{PutLocal}
@@ -30,9 +30,9 @@ getD-zeros n x = go (decLt x n)
     go (no h) = let zs : List ℕ = replicate n 0 in let l : length zs ≡ n = length-replicate n 0 in let q : length zs ≤ x = omega arith in List·getD-eq-default zs 0 q
 
 -- none is marked
-pub locals-none : (L vs X : List ℕ) → Zeroed 376832 442368 L X → Locals X (take 0 vs) X
+pub locals-none : (L vs X : List ℕ) → Zeroed 335872 401408 L X → Locals X (take 0 vs) X
 unfolding localsOf
-locals-none L vs X z = record { marks = λ x. (λ i. absurd i, λ n. absurd (n (ap (λ (l : List ℕ). getD l x 0) (z .part) ∙ getD-zeros (442368 - 376832) x))); rest = record { before = refl; after = refl; long = refl } }
+locals-none L vs X z = record { marks = λ x. (λ i. absurd i, λ n. absurd (n (ap (λ (l : List ℕ). getD l x 0) (z .part) ∙ getD-zeros (401408 - 335872) x))); rest = record { before = refl; after = refl; long = refl } }
 
 -- one more is
 pub locals-next : (L vs X Y : List ℕ) (i v : ℕ) → Laid L → i < length vs → v ≡ getD vs i 0 → v < 65536 → Locals L (take i vs) X → PutLocal X v 1 Y → Locals L (take (i + 1) vs) Y
@@ -58,7 +58,7 @@ locals-next L vs X Y i v h l e s m p = record { marks = λ x. subst (λ (us : Li
         old y k (inr (inr z)) o = absurd z
 
 -- all are
-pub locals-all : (L vs X Y : List ℕ) (i : ℕ) → length vs ≤ i → Zeroed 376832 442368 L X → Locals X (take i vs) Y → Locals L vs Y
+pub locals-all : (L vs X Y : List ℕ) (i : ℕ) → length vs ≤ i → Zeroed 335872 401408 L X → Locals X (take i vs) Y → Locals L vs Y
 locals-all L vs X Y i h z m = record { marks = subst (Marking (localsOf Y)) (take-all i vs h) (m .marks); rest = outside-then (z .rest) (m .rest) }
 
 pub suit-all : (S : List Word) (from mid to : ℕ) (L : List ℕ) → from ≤ mid → mid ≤ to → to ≤ length S → to + 6 ≤ 24576 + from → 524288 ≤ length L → (r : Bool) → Bounded S 65536 r → Suit S from mid to L r

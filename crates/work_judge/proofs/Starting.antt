@@ -9,49 +9,30 @@ use lib.ListN.{length, getD}
 use Rattle.constraint.specs.Tree.{Label}
 use Rattle.mem_numbers.specs.Numbers.{triples, zero-triples}
 use Rattle.mem_words.specs.declared.Word.{Word}
-use Rattle.mem_words.specs.declared.Word.the-variants.{End, Free, Level, Num, Place, Inner, Bad}
 use Rattle.mem_copies.specs.Runs.{run}
 use Rattle.mem_parts.specs.Parts.{Outside, Zeroed, cut, cut-left, cut-right}
-use Rattle.solve_trails.specs.Reach.{varsOf}
+use Rattle.solve_tells.specs.Draws.{Drawn}
+use Rattle.solve_tells.proofs.Rooms.{drawn-lower}
 use Rattle.solve_tells.specs.declared.Told.{Told}
 use Rattle.solve_tells.specs.declared.Told.the-variants.{All, Failed, NoRoom}
 use Rattle.solve_quiet.specs.Solver.{Marking}
-use Rattle.solve_verdicts.specs.Verdicts.{Fitted}
-use Rattle.solve_verdicts.specs.declared.Judged.{Judged}
-use Rattle.solve_verdicts.specs.declared.Judged.the-variants.{Unfit, NoSpace, Silent, Loudly}
+use Rattle.work_judge.specs.declared.Judged.{Judged}
+use Rattle.work_judge.specs.declared.Judged.the-variants.{Unfit, NoSpace, Silent, Loudly}
 use Rattle.work_tables.specs.Tables.{cellsOf, localsOf, logOf, Laid, laid-after, length-log}
 use Rattle.work_log.specs.Logs.{stop}
 use Rattle.work_walk.specs.Pushes.{CanPush, Pushed, longer}
-use Rattle.work_marks.specs.Marks.{Mark, trailAt, appsAt, usedAt, allTold, rangeTold, after, Walk}
+use Rattle.work_marks.specs.Marks.{Mark, trailAt, appsAt, usedAt, allTold, rangeTold, appsTold, after, Walk}
 use Rattle.work_marks.proofs.Walking.{walk-none, walk-can-push, walk-pushed}
 use Rattle.work_marks.proofs.Verdicts.{walk-clash}
-use Rattle.work_judge.specs.Judging.{appsTold, CanAgainst, RoomIn, Against, Suits, Suit, written, Judgement, Locals}
-use Rattle.work_judge.proofs.Answers.{apps-range, stop-never}
+use Rattle.work_marks.proofs.Rooms.{pushed-few}
+use Rattle.work_judge.specs.Judging.{Fitted, CanAgainst, RoomIn, Against, Suits, Suit, written, Judgement, Locals}
+use Rattle.work_judge.proofs.Answers.{stop-never}
 
 pub judge-unfit : (S : List Word) (from mid to : ℕ) (vs L : List ℕ) (r : Bool) → r ≡ false → Suit S from mid to L r → Judgement S from mid to vs L Unfit
 judge-unfit S from mid to vs L r e s = record { fits = subst (Suit S from mid to L) e s; right = λ lab d fr. tt }
 
 pub suit-as : (S : List Word) (from mid to : ℕ) (L : List ℕ) (r : Bool) → r ≡ true → Suit S from mid to L r → Suits S from mid to L
 suit-as S from mid to L r e s = subst (Suit S from mid to L) e s
-
--- the first words have no more variables than all
-vars-less : (A B : List Word) → length (varsOf A) ≤ length (varsOf (A ++ B))
-unfolding varsOf
-vars-less [] [] = omega arith
-vars-less [] (End ∷ r) = vars-less [] r
-vars-less [] (Free v ∷ r) = omega (arith, vars-less [] r)
-vars-less [] (Level v ∷ r) = vars-less [] r
-vars-less [] (Num v ∷ r) = vars-less [] r
-vars-less [] (Place k ∷ r) = vars-less [] r
-vars-less [] (Inner s ∷ r) = vars-less [] r
-vars-less [] (Bad ∷ r) = vars-less [] r
-vars-less (End ∷ r) B = vars-less r B
-vars-less (Free v ∷ r) B = omega (arith, vars-less r B)
-vars-less (Level v ∷ r) B = vars-less r B
-vars-less (Num v ∷ r) B = vars-less r B
-vars-less (Place k ∷ r) B = vars-less r B
-vars-less (Inner s ∷ r) B = vars-less r B
-vars-less (Bad ∷ r) B = vars-less r B
 
 none-log : (L : List ℕ) → Laid L → logOf 0 L ≡ []
 none-log L h = go (logOf 0 L) (length-log 0 h (record { most = omega arith }))
@@ -93,15 +74,18 @@ module _ (S : List Word) (from mid to : ℕ) (vs L A B : List ℕ) (h : Suits S 
 
     marking : Marking (localsOf Z) vs
     unfolding localsOf
-    marking = subst (λ (l : List ℕ). Marking l vs) (sym (cut-right 376832 442368 (omega arith) (p .rest))) (m .marks)
+    marking = subst (λ (l : List ℕ). Marking l vs) (sym (cut-right 335872 401408 (omega arith) (p .rest))) (m .marks)
 
     pub judge-told : (r : Judged) → Against S Z used n a mid (to - mid) r → Judgement S from mid to vs L r
     judge-told r g = record { fits = go r (g .fits); right = λ lab d fr. g .right (after [] S from (mid - from) n a ∷ []) next-walk is-used refl refl lab d vs marking fr }
       where
         later : RoomIn (written S from mid to) (appsTold S from (mid - from) + appsTold S mid (to - mid)) → RoomIn (longer S Z used mid (to - mid)) (a + appsTold S mid (to - mid))
         later k = record {
-          apps = omega (arith, k .apps, p .told .few, apps-range S B 0 from (mid - from) laidB (start-push .room .room));
-          trail = subst (λ (w : List Word). 3 * length (varsOf w) + 2 ≤ 16384) (sym all-words) (k .trail) }
+          apps = omega (arith, k .apps, pushed-few start-push p);
+          vars = k .vars;
+          drawn = subst (λ (w : List Word). Drawn w (k .vars)) (sym all-words) (k .drawn);
+          trail = k .trail;
+        }
 
         go : (j : Judged) → Fitted (Unit {0}) (RoomIn (longer S Z used mid (to - mid)) (a + appsTold S mid (to - mid))) j → Fitted (Suits S from mid to L) (RoomIn (written S from mid to) (appsTold S from (mid - from) + appsTold S mid (to - mid))) j
         go Unfit f = absurd (f tt)
@@ -110,9 +94,18 @@ module _ (S : List Word) (from mid to : ℕ) (vs L A B : List ℕ) (h : Suits S 
         go Loudly f = h
 
   pub judge-clash : (Z : List ℕ) (n a : ℕ) → Pushed S B 0 0 0 from (mid - from) Z (Failed n a) → Judgement S from mid to vs L Silent
-  judge-clash Z n a p = record { fits = h; right = λ lab d fr ρ s. absurd (walk-clash [] S B Z from (mid - from) n a start-walk start-push p lab d (ρ , s)) }
+  judge-clash Z n a p = record { fits = h; right = λ lab d fr ρ s. absurd (walk-clash [] S B Z from (mid - from) n a start-walk start-push p lab d (ρ, s)) }
 
   pub judge-stop : (Z : List ℕ) (n a : ℕ) → Pushed S B 0 0 0 from (mid - from) Z (NoRoom n a) → Judgement S from mid to vs L NoSpace
-  judge-stop Z n a p = record { fits = (h, λ k. stop-never S B Z 0 0 0 from (mid - from) n a start-push p (record {
-      apps = omega (arith, k .apps);
-      trail = subst (λ (w : List Word). 3 * length (varsOf w) + 2 ≤ 16384) (sym first-words) (omega (arith, k .trail, vars-less (run from (mid - from) S ++ stop) (run mid (to - mid) S ++ stop))) })); right = λ lab d fr. tt }
+  judge-stop Z n a p = record {
+    fits = (
+      h,
+      λ k. stop-never S B Z 0 0 0 from (mid - from) n a start-push p (record {
+        apps = omega (arith, k .apps);
+        vars = k .vars;
+        drawn = subst (λ (w : List Word). Drawn w (k .vars)) (sym first-words) (drawn-lower (run from (mid - from) S ++ stop) (run mid (to - mid) S ++ stop) (k .vars) (k .drawn));
+        trail = k .trail;
+      }),
+    );
+    right = λ lab d fr. tt;
+  }

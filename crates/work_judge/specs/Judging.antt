@@ -10,19 +10,29 @@ use Rattle.mem_words.specs.declared.Word.{Word}
 use Rattle.mem_copies.specs.Runs.{run}
 use Rattle.mem_parts.specs.Parts.{Outside}
 use Rattle.solve_fields.specs.Read.{Distinct, Vars}
-use Rattle.solve_trails.specs.Reach.{varsOf}
-use Rattle.solve_tells.specs.Tells.{appsOf}
+use Rattle.solve_tells.specs.Draws.{Drawn}
 use Rattle.solve_quiet.specs.Solver.{Marking}
-use Rattle.solve_verdicts.specs.declared.Judged.{Judged}
-use Rattle.solve_verdicts.specs.Verdicts.{Fitted, Says}
+use Rattle.work_judge.specs.declared.Judged.{Judged}
+use Rattle.work_judge.specs.declared.Judged.the-variants.{Unfit, NoSpace, Silent, Loudly}
 use Rattle.work_tables.specs.Tables.{localsOf, Laid}
 use Rattle.work_log.specs.Logs.{stop}
 use Rattle.work_walk.specs.Pushes.{longer}
-use Rattle.work_marks.specs.Marks.{Mark, trailAt, appsAt, usedAt, allTold, rangeTold, Walk}
+use Rattle.work_marks.specs.Marks.{Mark, trailAt, appsAt, usedAt, allTold, rangeTold, appsTold, Walk}
 
--- how many applications begin in the range
-abbrev pub appsTold : List Word → ℕ → ℕ → ℕ
-appsTold S from len = appsOf len (run from len S ++ stop)
+-- what does not fit S alone is called unfit, and only where there is no room, R, is there no answer: where both are given the
+-- answer is the verdict
+abbrev pub Fitted : Type 0 → Type 0 → Judged → Type 0
+Fitted S R Unfit = S → ⊥
+Fitted S R NoSpace = S × (R → ⊥)
+Fitted S R Silent = S
+Fitted S R Loudly = S
+
+-- the verdict; where there is none, `Fitted` says why
+abbrev pub Says : Type 0 → Judged → Type 0
+Says Q Unfit = Unit {0}
+Says Q NoSpace = Unit {0}
+Says Q Silent = Q
+Says Q Loudly = Q → ⊥
 
 -- the slice is at the mark (n, a, used) of some walk, and a range may be pushed
 pub record CanAgainst (S : List Word) (L : List ℕ) (used n a from len : ℕ) : Type 0 where
@@ -35,10 +45,12 @@ pub record CanAgainst (S : List Word) (L : List ℕ) (used n a from len : ℕ) :
   pub room : used + len + 3 ≤ 24576
   pub vars : Vars S 65536
 
--- a position for each application, and in the trail 3 entries for each variable of the log's words and 2 more
+-- a position for each application, and in the trail 3 entries for each different variable of the log's words, 0 among them, and 2 more
 pub record RoomIn (W : List Word) (q : ℕ) : Type 0 where
   pub apps : q ≤ 2048
-  pub trail : 3 * length (varsOf W) + 2 ≤ 16384
+  pub vars : List ℕ
+  pub drawn : Drawn W vars
+  pub trail : 3 * length vars + 2 ≤ 8192
 
 -- the answer for every walk that is at that mark: whether the range is quiet for all that was told
 pub record Against (S : List Word) (L : List ℕ) (used n a from len : ℕ) (r : Judged) : Type 0 where
@@ -70,4 +82,4 @@ pub record Judgement (S : List Word) (from mid to : ℕ) (vs L : List ℕ) (r : 
 -- the locals of vs are marked, and no others
 pub record Locals (L vs X : List ℕ) : Type 0 where
   pub marks : Marking (localsOf X) vs
-  pub rest : Outside 376832 442368 L X
+  pub rest : Outside 335872 401408 L X

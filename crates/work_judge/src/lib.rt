@@ -5,7 +5,14 @@ ghost use Rattle.work_tables.specs.Tables.{Laid};
 ghost use Rattle.work_judge.specs.Judging.{CanAgainst, Against, Suit, Locals, Judgement};
 use solve_quiet::Calm;
 use solve_tells::Told;
-use solve_verdicts::Judged;
+
+// What a judgement says: words and slice do not fit, there is no room, the store is quiet, it is not.
+pub enum Judged {
+    Unfit,
+    NoSpace,
+    Silent,
+    Loudly,
+}
 
 // Tells the `len` words of `t` from `from` on to what was told up to the mark, and asks whether they are quiet for it.
 pub fn against(
@@ -45,7 +52,7 @@ pub fn mark_locals(locals: &[u8], w: &mut [u8])
     requires { ⌜ Laid (now w) ⌝ }
     ensures { λ _. ⌜ Locals (now (w .entry)) (shorts (now (locals .entry))) (now (w .exit)) ⌝ }
 {
-    mem_parts::zero(w, 376832, 442368);
+    mem_parts::zero(w, 335872, 401408);
     let k = mem_numbers::short_count(locals);
     let mut i = 0;
     while i < k {
@@ -80,14 +87,7 @@ fn suit(t: &[u8], w: &[u8], from: usize, mid: usize, to: usize) -> bool
 
 // Whether the constraints in the words from `mid` on up to `to` are quiet, with the variables of `locals` as locals, for those from
 // `from` on up to `mid`. The tables of the slice are made anew.
-pub fn judge(
-    t: &[u8],
-    locals: &[u8],
-    w: &mut [u8],
-    from: usize,
-    mid: usize,
-    to: usize,
-) -> Judged
+pub fn judge(t: &[u8], locals: &[u8], w: &mut [u8], from: usize, mid: usize, to: usize) -> Judged
     ensures { λ r. ⌜ Judgement (words (now (t .entry))) from mid to (shorts (now (locals .entry))) (now (w .entry)) r ⌝ }
 {
     if !suit(t, w, from, mid, to) {

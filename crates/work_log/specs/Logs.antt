@@ -27,7 +27,7 @@ pub record CanAppend (S : List Word) (L : List ℕ) (used from n : ℕ) : Type 0
 -- the log has the words of the range behind its own, then the end; nothing else was changed
 pub record Appended (S : List Word) (L : List ℕ) (used from n : ℕ) (X : List ℕ) : Type 0 where
   pub log : logOf (used + n + 3) X ≡ logOf used L ++ (run from n S ++ stop)
-  pub rest : Outside 303104 376832 L X
+  pub rest : Outside 262144 335872 L X
 
 pub record CopiedIn (a e : ℕ) (S : List Word) (from n : ℕ) (L X : List ℕ) : Type 0 where
   pub part : Copied (words (cut a e L)) 0 (drop from S) n (words (cut a e X))
@@ -71,13 +71,13 @@ cut-append a b c L h g =
     ∙ ap (λ (t : List ℕ). take (b - a) (drop a L) ++ take (c - b) t) (drop-drop (b - a) a L ∙ ap (λ (k : ℕ). drop k L) y)
 
 -- the log's first k words and the m behind them
-pub log-append : (k m : ℕ) (L : List ℕ) → 303104 + 3 * k + 3 * m ≤ length L → logOf (k + m) L ≡ logOf k L ++ words (cut (303104 + 3 * k) (303104 + 3 * k + 3 * m) L)
+pub log-append : (k m : ℕ) (L : List ℕ) → 262144 + 3 * k + 3 * m ≤ length L → logOf (k + m) L ≡ logOf k L ++ words (cut (262144 + 3 * k) (262144 + 3 * k + 3 * m) L)
 unfolding logOf
 log-append k m L h =
-    let z : 303104 + 3 * (k + m) ≡ 303104 + 3 * k + 3 * m = omega arith in
-    let l : length (cut 303104 (303104 + 3 * k) L) ≡ 3 * k = length-cut 303104 (303104 + 3 * k) L (omega arith) ∙ (omega arith) in
-    ap (λ (e : ℕ). words (cut 303104 e L)) z ∙ ap words (cut-append 303104 (303104 + 3 * k) (303104 + 3 * k + 3 * m) L (omega arith) (omega arith))
-    ∙ words-append k (cut 303104 (303104 + 3 * k) L) _ l
+    let z : 262144 + 3 * (k + m) ≡ 262144 + 3 * k + 3 * m = omega arith in
+    let l : length (cut 262144 (262144 + 3 * k) L) ≡ 3 * k = length-cut 262144 (262144 + 3 * k) L (omega arith) ∙ (omega arith) in
+    ap (λ (e : ℕ). words (cut 262144 e L)) z ∙ ap words (cut-append 262144 (262144 + 3 * k) (262144 + 3 * k + 3 * m) L (omega arith) (omega arith))
+    ∙ words-append k (cut 262144 (262144 + 3 * k) L) _ l
 
 stop-at : (i : ℕ) → i < 3 → getD stop i Bad ≡ End
 unfolding stop
@@ -95,11 +95,11 @@ stop-is =
     let l : length (words (replicate 9 0)) ≡ 3 = length-words (replicate 9 0) in
     ext-getD Bad (words (replicate 9 0)) stop (l ∙ sym stop-long) (λ i h. zero-words 9 i h ∙ sym (stop-at i (subst (λ (n : ℕ). i < n) l h)))
 
-pub copy-room : {S : List Word} {from : ℕ} (used n : ℕ) (L : List ℕ) → CanAppend S L used from n → 0 + n ≤ length (words (cut (303104 + 3 * used) (303104 + 3 * used + 3 * n) L))
+pub copy-room : {S : List Word} {from : ℕ} (used n : ℕ) (L : List ℕ) → CanAppend S L used from n → 0 + n ≤ length (words (cut (262144 + 3 * used) (262144 + 3 * used + 3 * n) L))
 copy-room used n L h =
     let g = h .laid .long in let r = h .room in
-    let l : length (cut (303104 + 3 * used) (303104 + 3 * used + 3 * n) L) ≡ 3 * n = length-cut (303104 + 3 * used) (303104 + 3 * used + 3 * n) L (omega arith) ∙ (omega arith) in
-    let m : length (words (cut (303104 + 3 * used) (303104 + 3 * used + 3 * n) L)) ≡ 3 * n / 3 = length-words (cut (303104 + 3 * used) (303104 + 3 * used + 3 * n) L) ∙ ap (λ (k : ℕ). k / 3) l in
+    let l : length (cut (262144 + 3 * used) (262144 + 3 * used + 3 * n) L) ≡ 3 * n = length-cut (262144 + 3 * used) (262144 + 3 * used + 3 * n) L (omega arith) ∙ (omega arith) in
+    let m : length (words (cut (262144 + 3 * used) (262144 + 3 * used + 3 * n) L)) ≡ 3 * n / 3 = length-words (cut (262144 + 3 * used) (262144 + 3 * used + 3 * n) L) ∙ ap (λ (k : ℕ). k / 3) l in
     omega arith
 
 -- a copy over a whole part is the range
@@ -109,28 +109,28 @@ copied-all D S n X e h c =
     let l : length X ≤ 0 + n = omega (arith, c .long) in
     sym (take-all (0 + n) X l) ∙ ap (take (0 + n)) (c .list) ∙ take-copied D 0 S n (omega arith) h
 
-log-before : (used : ℕ) (L Y Z : List ℕ) (A B : ℕ) → A ≡ 303104 + 3 * used → A ≤ B → B ≤ length L → B ≤ length Y → Outside A B L Y → Outside B (B + 9) Y Z → logOf used Z ≡ logOf used L
+log-before : (used : ℕ) (L Y Z : List ℕ) (A B : ℕ) → A ≡ 262144 + 3 * used → A ≤ B → B ≤ length L → B ≤ length Y → Outside A B L Y → Outside B (B + 9) Y Z → logOf used Z ≡ logOf used L
 unfolding logOf
-log-before used L Y Z A B e h g k p q = ap words (cut-left 303104 (303104 + 3 * used) (omega arith) (omega arith) k q ∙ cut-left 303104 (303104 + 3 * used) (omega arith) (omega arith) (omega arith) p)
+log-before used L Y Z A B e h g k p q = ap words (cut-left 262144 (262144 + 3 * used) (omega arith) (omega arith) k q ∙ cut-left 262144 (262144 + 3 * used) (omega arith) (omega arith) (omega arith) p)
 
-pub appended : (S : List Word) (L Y Z : List ℕ) (used from n a b e : ℕ) → a ≡ 303104 + 3 * used → b ≡ a + 3 * n → e ≡ b + 9 → CanAppend S L used from n → CopiedIn a b S from n L Y → Zeroed b e Y Z → Appended S L used from n Z
+pub appended : (S : List Word) (L Y Z : List ℕ) (used from n a b e : ℕ) → a ≡ 262144 + 3 * used → b ≡ a + 3 * n → e ≡ b + 9 → CanAppend S L used from n → CopiedIn a b S from n L Y → Zeroed b e Y Z → Appended S L used from n Z
 unfolding run
 appended S L Y Z used from n a b e ea eb ee h c z =
     let g = h .laid .long in let r = h .room in let lY = c .rest .long in let lZ = z .rest .long in
-    let A : ℕ = 303104 + 3 * used in
+    let A : ℕ = 262144 + 3 * used in
     let B : ℕ = A + 3 * n in
     let c1 : CopiedIn A B S from n L Y = subst (λ (k : ℕ). CopiedIn A k S from n L Y) (eb ∙ ap (λ (k : ℕ). k + 3 * n) ea) (subst (λ (k : ℕ). CopiedIn k b S from n L Y) ea c) in
     let e1 : e ≡ B + 9 = ee ∙ ap (λ (k : ℕ). k + 9) (eb ∙ ap (λ (k : ℕ). k + 3 * n) ea) in
     let z1 : Zeroed B (B + 9) Y Z = subst (λ (k : ℕ). Zeroed B k Y Z) e1 (subst (λ (k : ℕ). Zeroed k e Y Z) (eb ∙ ap (λ (k : ℕ). k + 3 * n) ea) z) in
-    let d : 303104 + 3 * (used + n) ≡ B = omega arith in
+    let d : 262144 + 3 * (used + n) ≡ B = omega arith in
     let lD : length (cut A B L) ≡ 3 * n = length-cut A B L (omega arith) ∙ (omega arith) in
     let lW : length (words (cut A B L)) ≡ n = length-words (cut A B L) ∙ ap (λ (k : ℕ). k / 3) lD ∙ (omega arith) in
-    let p1 : logOf (used + n + 3) Z ≡ logOf (used + n) Z ++ words (cut (303104 + 3 * (used + n)) (303104 + 3 * (used + n) + 3 * 3) Z) = log-append (used + n) 3 Z (omega arith) in
-    let p2 : words (cut (303104 + 3 * (used + n)) (303104 + 3 * (used + n) + 3 * 3) Z) ≡ stop = ap (λ (k : ℕ). words (cut k (k + 9) Z)) d ∙ ap words (z1 .part) ∙ (let q : B + 9 - B ≡ 9 = omega arith in ap (λ (k : ℕ). words (replicate k 0)) q) ∙ stop-is in
+    let p1 : logOf (used + n + 3) Z ≡ logOf (used + n) Z ++ words (cut (262144 + 3 * (used + n)) (262144 + 3 * (used + n) + 3 * 3) Z) = log-append (used + n) 3 Z (omega arith) in
+    let p2 : words (cut (262144 + 3 * (used + n)) (262144 + 3 * (used + n) + 3 * 3) Z) ≡ stop = ap (λ (k : ℕ). words (cut k (k + 9) Z)) d ∙ ap words (z1 .part) ∙ (let q : B + 9 - B ≡ 9 = omega arith in ap (λ (k : ℕ). words (replicate k 0)) q) ∙ stop-is in
     let p3 : logOf (used + n) Z ≡ logOf used Z ++ words (cut A B Z) = log-append used n Z (omega arith) in
     let p4 : words (cut A B Z) ≡ take n (drop from S) = ap words (cut-left A B (omega arith) (omega arith) (omega arith) (z1 .rest)) ∙ copied-all (words (cut A B L)) (drop from S) n _ lW (length-rest S from n (h .source)) (c1 .part) in
     let p5 : logOf used Z ≡ logOf used L = log-before used L Y Z A B (omega arith) (omega arith) (omega arith) (omega arith) (c1 .rest) (z1 .rest) in
     record {
       log = p1 ∙ ap₂ (λ (x y : List Word). x ++ y) (p3 ∙ ap₂ (λ (x y : List Word). x ++ y) p5 p4) p2 ∙ append-assoc (logOf used L) (take n (drop from S)) stop;
-      rest = outside-then (outside-wide 303104 376832 (omega arith) (omega arith) (c1 .rest)) (outside-wide 303104 376832 (omega arith) (omega arith) (z1 .rest));
+      rest = outside-then (outside-wide 262144 335872 (omega arith) (omega arith) (c1 .rest)) (outside-wide 262144 335872 (omega arith) (omega arith) (z1 .rest));
     }

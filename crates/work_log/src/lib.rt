@@ -20,7 +20,7 @@ pub fn append(t: &[u8], w: &mut [u8], used: usize, from: usize, n: usize)
     requires { ⌜ CanAppend (words (now t)) (now w) used from n ⌝ }
     ensures { λ _. ⌜ Appended (words (now (t .entry))) (now (w .entry)) used from n (now (w .exit)) ⌝ }
 {
-    let a = 303104 + 3 * used;
+    let a = 262144 + 3 * used;
     let b = a + 3 * n;
     let e = b + 9;
     copy_in(t, w, from, n, a, b);

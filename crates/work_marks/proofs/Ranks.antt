@@ -73,9 +73,11 @@ module _ (lab : ℕ → Label) (W : List Word) (P T : List ℕ) (ρ : Asg) (fit 
 
   pub fits-acyclic : Acyclic W P T
   fits-acyclic = record {
-    rk = rank; top = most rank (length T);
+    rk = rank;
+    top = most rank (length T);
     low = λ x. low x (decLt x (length T));
-    down = λ x e y i. omega (arith, rank-le y, arg-le ρ y (argsAt W (getD P (cellOf T x / 256) 0)) i, node-size (lab (labelAt W (getD P (cellOf T x / 256) 0))) (trees ρ (argsAt W (getD P (cellOf T x / 256) 0))), ap tree-size (value x e), rank-yes x e) }
+    down = λ x e y i. omega (arith, rank-le y, arg-le ρ y (argsAt W (getD P (cellOf T x / 256) 0)) i, node-size (lab (labelAt W (getD P (cellOf T x / 256) 0))) (trees ρ (argsAt W (getD P (cellOf T x / 256) 0))), ap tree-size (value x e), rank-yes x e);
+  }
     where
       low : (x : ℕ) → Dec (x < length T) → rank x < most rank (length T)
       low x (yes h) = most-low rank (length T) x h

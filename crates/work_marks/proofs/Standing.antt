@@ -10,7 +10,7 @@ use Rattle.mem_words.specs.declared.Word.{Word}
 use Rattle.solve_cells.specs.Trail.{rewind, rewind-none}
 use Rattle.solve_classes.specs.Means.{OldVars, OldIn}
 use Rattle.solve_quiet.specs.Solver.{Kept}
-use Rattle.solve_trails.specs.Reach.{varsOf}
+use Rattle.solve_tells.specs.Reach.{varsOf}
 use Rattle.solve_fields.specs.Read.{labelAt, argsAt}
 use Rattle.solve_tells.specs.Tells.{State, Means, Left}
 use Rattle.solve_tells.proofs.Telling.{left-then}
@@ -46,9 +46,20 @@ module _ (ms : List Mark) (W₀ W : List Word) (P₀ T₀ X₀ C₀ P T X C : Li
 
 pub stand-over : (ms : List Mark) (W₀ W : List Word) (P₀ T₀ X₀ C₀ P T X C : List ℕ) (n a : ℕ) → Left W P₀ T₀ X₀ C₀ (trailAt ms) (appsAt ms) P T X C n a → Stand ms W₀ P₀ T₀ X₀ C₀ → Stand ms W₀ P T₀ X C
 stand-over [] W₀ W P₀ T₀ X₀ C₀ P T X C n a l s = here-over [] W₀ W P₀ T₀ X₀ C₀ P T X C n a l s
-stand-over (m ∷ ms) W₀ W P₀ T₀ X₀ C₀ P T X C n a l s = (here-over (m ∷ ms) W₀ W P₀ T₀ X₀ C₀ P T X C n a l (s .0), record {
-  words = s .1 .words; more = s .1 .more; log = s .1 .log; pos = s .1 .pos; cells = s .1 .cells; vars = s .1 .vars; olds = s .1 .olds; stood = s .1 .stood;
-  left = left-then (s .1 .left) (left-mark W₀ W P₀ T₀ X₀ C₀ (m .trail) (m .apps) P T X C n a l (s .0 .state)) })
+stand-over (m ∷ ms) W₀ W P₀ T₀ X₀ C₀ P T X C n a l s = (
+  here-over (m ∷ ms) W₀ W P₀ T₀ X₀ C₀ P T X C n a l (s .0),
+  record {
+    words = s .1 .words;
+    more = s .1 .more;
+    log = s .1 .log;
+    pos = s .1 .pos;
+    cells = s .1 .cells;
+    vars = s .1 .vars;
+    olds = s .1 .olds;
+    stood = s .1 .stood;
+    left = left-then (s .1 .left) (left-mark W₀ W P₀ T₀ X₀ C₀ (m .trail) (m .apps) P T X C n a l (s .0 .state));
+  },
+)
 
 vars-none : (X : List ℕ) (n z : ℕ) → OldVars X n n z
 unfolding OldVars
@@ -63,8 +74,19 @@ pub kept-left : (W : List Word) (P T X C : List ℕ) (n a : ℕ) (X′ C′ : Li
 kept-left W P T X C n a X′ C′ s k = record {
   step = record {
     grown = record { le = omega arith; sizeT = refl; sizeX = k .sizeX; sizeC = k .sizeC; back = (let z : n - n ≡ 0 = omega arith in ap (λ (m : ℕ). rewind m n T X′ C′) z ∙ rewind-none n T X′ C′); oldX = k .oldX; oldC = k .oldC; tags = λ x. record { unbound = λ e. e }; opens = λ i l h. absurd (omega arith) };
-    up = s .sound .up; vars = vars-none X′ n (length T); plain = λ x e. e; fitX = s .sound .fitX; fitC = s .sound .fitC; cost = omega arith; within = s .sound .within; used = in-none X′ n (varsOf W) };
-  more = omega arith; sizeP = refl; oldP = λ i l. refl }
+    up = s .sound .up;
+    vars = vars-none X′ n (length T);
+    plain = λ x e. e;
+    fitX = s .sound .fitX;
+    fitC = s .sound .fitC;
+    cost = omega arith;
+    within = s .sound .within;
+    used = in-none X′ n (varsOf W);
+  };
+  more = omega arith;
+  sizeP = refl;
+  oldP = λ i l. refl;
+}
 
 pub kept-same : (T X C : List ℕ) (n : ℕ) → Kept T X C n T X C
 kept-same T X C n = record { cells = refl; sizeX = refl; sizeC = refl; oldX = λ i l. refl; oldC = λ i l. refl }
@@ -72,8 +94,16 @@ kept-same T X C n = record { cells = refl; sizeX = refl; sizeC = refl; oldX = λ
 -- the tables of the latest mark are had back from themselves
 pub under-here : (ms : List Mark) (W : List Word) (P T X C : List ℕ) → Stand ms W P T X C → Under (Stand ms) ms W P T X C (trailAt ms) (appsAt ms)
 under-here ms W P T X C s = record {
-  words = W; more = []; log = sym (append-nil W); pos = P; cells = T; vars = X; olds = C; stood = s;
-  left = kept-left W P T X C (trailAt ms) (appsAt ms) X C (stand-here ms W P T X C s .state) (kept-same T X C (trailAt ms)) }
+  words = W;
+  more = [];
+  log = sym (append-nil W);
+  pos = P;
+  cells = T;
+  vars = X;
+  olds = C;
+  stood = s;
+  left = kept-left W P T X C (trailAt ms) (appsAt ms) X C (stand-here ms W P T X C s .state) (kept-same T X C (trailAt ms));
+}
 
 -- and where those of a mark can be had back, those of every mark below can
 pub under-then : (news ms : List Mark) (W : List Word) (P T X C : List ℕ) (n a : ℕ) → Under (Stand (news ++ ms)) (news ++ ms) W P T X C n a → Under (Stand ms) ms W P T X C n a
@@ -81,9 +111,16 @@ under-then [] ms W P T X C n a u = u
 under-then (m ∷ news) ms W P T X C n a u =
     let v = u .stood .1 in
     under-then news ms W P T X C n a (record {
-      words = v .words; more = v .more ++ u .more; log = u .log ∙ ap (λ (w : List Word). w ++ u .more) (v .log) ∙ append-assoc (v .words) (v .more) (u .more);
-      pos = v .pos; cells = v .cells; vars = v .vars; olds = v .olds; stood = v .stood;
-      left = left-then (subst (λ (w : List Word). Left w (v .pos) (v .cells) (v .vars) (v .olds) (trailAt (news ++ ms)) (appsAt (news ++ ms)) (u .pos) (u .cells) (u .vars) (u .olds) (m .trail) (m .apps)) (sym (u .log)) (left-more (u .words) (u .more) (v .pos) (v .cells) (v .vars) (v .olds) (trailAt (news ++ ms)) (appsAt (news ++ ms)) (u .pos) (u .cells) (u .vars) (u .olds) (m .trail) (m .apps) (v .left))) (u .left) })
+      words = v .words;
+      more = v .more ++ u .more;
+      log = u .log ∙ ap (λ (w : List Word). w ++ u .more) (v .log) ∙ append-assoc (v .words) (v .more) (u .more);
+      pos = v .pos;
+      cells = v .cells;
+      vars = v .vars;
+      olds = v .olds;
+      stood = v .stood;
+      left = left-then (subst (λ (w : List Word). Left w (v .pos) (v .cells) (v .vars) (v .olds) (trailAt (news ++ ms)) (appsAt (news ++ ms)) (u .pos) (u .cells) (u .vars) (u .olds) (m .trail) (m .apps)) (sym (u .log)) (left-more (u .words) (u .more) (v .pos) (v .cells) (v .vars) (v .olds) (trailAt (news ++ ms)) (appsAt (news ++ ms)) (u .pos) (u .cells) (u .vars) (u .olds) (m .trail) (m .apps) (v .left))) (u .left);
+    })
 
 -- the same of equal tables
 pub stand-at : (ms : List Mark) {W W′ : List Word} {P P′ T T′ X X′ C C′ : List ℕ} → W ≡ W′ → P ≡ P′ → T ≡ T′ → X ≡ X′ → C ≡ C′ → Stand ms W P T X C → Stand ms W′ P′ T′ X′ C′

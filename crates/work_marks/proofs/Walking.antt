@@ -44,11 +44,16 @@ walk-none L h z =
     let w : length (logOf 0 L) ≡ 0 = length-log 0 h (record { most = omega arith }) in
     let c = length-cell h in
     let p = length-pos h in
-    record { laid = h; room = omega arith; stand = record {
-      state = start-state (logOf 0 L) (posOf L) (cellsOf L) (varsOf L) (oldsOf L) z (omega arith) (omega arith) (omega arith) (vars-zero (logOf 0 L) (length (cellsOf L)) w (omega arith));
-      closed = closed-none (logOf 0 L) (posOf L);
-      words = w;
-      means = start-means (logOf 0 L) (posOf L) (cellsOf L) (varsOf L) (oldsOf L) z } }
+    record {
+      laid = h;
+      room = omega arith;
+      stand = record {
+        state = start-state (logOf 0 L) (posOf L) (cellsOf L) (varsOf L) (oldsOf L) z (omega arith) (omega arith) (omega arith) (vars-zero (logOf 0 L) (length (cellsOf L)) w (omega arith));
+        closed = closed-none (logOf 0 L) (posOf L);
+        words = w;
+        means = start-means (logOf 0 L) (posOf L) (cellsOf L) (varsOf L) (oldsOf L) z;
+      };
+    }
 
 -- a store may be pushed if the log has room for it and its variables have cells
 pub walk-can-push : (ms : List Mark) (S : List Word) (L : List ℕ) (from len : ℕ) → Walk L ms → from + len ≤ length S → usedAt ms + len + 3 ≤ 24576 → Vars S 65536 → CanPush S L (usedAt ms) (trailAt ms) (appsAt ms) from len
@@ -58,7 +63,6 @@ walk-can-push ms S L from len w s r v = record { room = record { laid = w .laid;
 module _ (ms : List Mark) (S : List Word) (L X : List ℕ) (from len : ℕ) (w : Walk L ms) (c : CanPush S L (usedAt ms) (trailAt ms) (appsAt ms) from len) where
   H : Here ms (logOf (usedAt ms) L) (posOf L) (cellsOf L) (varsOf L) (oldsOf L)
   H = stand-here ms (logOf (usedAt ms) L) (posOf L) (cellsOf L) (varsOf L) (oldsOf L) (w .stand)
-
 
   pub more-means : (lab : ℕ → Label) → Means lab (longer S L (usedAt ms) from len) (posOf L) (cellsOf L) (allTold lab ms)
   more-means lab = means-more lab (logOf (usedAt ms) L) (run from len S ++ stop) (posOf L) (cellsOf L) (appsAt ms) (allTold lab ms) (H .closed) (H .state .apps) (H .means lab)
@@ -70,14 +74,19 @@ module _ (ms : List Mark) (S : List Word) (L X : List ℕ) (from len : ℕ) (w :
       let lr : length (run from len S) ≡ len = length-run from len S (c .room .source) in
       let lx : Laid X = laid-after (w .laid) (p .rest) in
       let ll : length (logOf (usedAt ms + len + 3) X) ≡ usedAt ms + len + 3 = length-log (usedAt ms + len + 3) lx (record { most = k }) in
-      record { laid = lx; room = k; stand = stand-at (after ms S from len n a ∷ ms) (sym (p .log)) refl refl refl refl (
-        record {
-          state = d .state;
-          closed = closed-next (logOf (usedAt ms) L) (run from len S) (posOf L) (posOf X) (appsAt ms) a (H .closed) (d .left .oldP) (λ j g h. omega (arith, p .ahead j g h, H .words, lr));
-          words = sym (ap length (p .log)) ∙ ll;
-          means = λ lab. subst (λ (σ : Store). Means lab (longer S L (usedAt ms) from len) (posOf X) (cellsOf X) (allTold lab ms ++ σ)) (pushed-range S L (usedAt ms) (trailAt ms) (appsAt ms) from len c lab) (d .means lab (allTold lab ms) (more-means lab));
-        },
-        record { words = logOf (usedAt ms) L; more = run from len S ++ stop; log = refl; pos = posOf L; cells = cellsOf L; vars = varsOf L; olds = oldsOf L; stood = w .stand; left = d .left }) }
+      record {
+        laid = lx;
+        room = k;
+        stand = stand-at (after ms S from len n a ∷ ms) (sym (p .log)) refl refl refl refl (
+          record {
+            state = d .state;
+            closed = closed-next (logOf (usedAt ms) L) (run from len S) (posOf L) (posOf X) (appsAt ms) a (H .closed) (d .left .oldP) (λ j g h. omega (arith, p .ahead j g h, H .words, lr));
+            words = sym (ap length (p .log)) ∙ ll;
+            means = λ lab. subst (λ (σ : Store). Means lab (longer S L (usedAt ms) from len) (posOf X) (cellsOf X) (allTold lab ms ++ σ)) (pushed-range S L (usedAt ms) (trailAt ms) (appsAt ms) from len c lab) (d .means lab (allTold lab ms) (more-means lab));
+          },
+          record { words = logOf (usedAt ms) L; more = run from len S ++ stop; log = refl; pos = posOf L; cells = cellsOf L; vars = varsOf L; olds = oldsOf L; stood = w .stand; left = d .left },
+        );
+      }
 
 -- the first words of the log
 log-prefix : (j k : ℕ) (L : List ℕ) (A R : List Word) → Laid L → k ≤ 24576 → logOf k L ≡ A ++ R → length A ≡ j → A ≡ logOf j L
@@ -96,13 +105,25 @@ pub walk-returns : (news ms : List Mark) (L : List ℕ) → Walk L (news ++ ms) 
 walk-returns news ms L w = record { laid = w .laid; used = usedAt (news ++ ms); room = w .room; apps = appsAt (news ++ ms); under = under-then news ms _ _ _ _ _ _ _ (under-here (news ++ ms) _ _ _ _ _ (w .stand)) }
 
 -- and so can it after a push that left its changes, whatever it answered
-left-returns : (news ms : List Mark) (S : List Word) (L X : List ℕ) (from len n a : ℕ) → Walk L (news ++ ms) → usedAt (news ++ ms) + len + 3 ≤ 24576 → Outside 16384 376832 L X → logOf (usedAt (news ++ ms) + len + 3) X ≡ longer S L (usedAt (news ++ ms)) from len
-  → Left (longer S L (usedAt (news ++ ms)) from len) (posOf L) (cellsOf L) (varsOf L) (oldsOf L) (trailAt (news ++ ms)) (appsAt (news ++ ms)) (posOf X) (cellsOf X) (varsOf X) (oldsOf X) n a → Returns X n ms
+left-returns : (news ms : List Mark) (S : List Word) (L X : List ℕ) (from len n a : ℕ) → Walk L (news ++ ms) → usedAt (news ++ ms) + len + 3 ≤ 24576 → Outside 16384 335872 L X → logOf (usedAt (news ++ ms) + len + 3) X ≡ longer S L (usedAt (news ++ ms)) from len
+    → Left (longer S L (usedAt (news ++ ms)) from len) (posOf L) (cellsOf L) (varsOf L) (oldsOf L) (trailAt (news ++ ms)) (appsAt (news ++ ms)) (posOf X) (cellsOf X) (varsOf X) (oldsOf X) n a → Returns X n ms
 left-returns news ms S L X from len n a w k o e l = record {
-  laid = laid-after (w .laid) o; used = usedAt (news ++ ms) + len + 3; room = k; apps = a;
+  laid = laid-after (w .laid) o;
+  used = usedAt (news ++ ms) + len + 3;
+  room = k;
+  apps = a;
   under = under-then news ms (logOf (usedAt (news ++ ms) + len + 3) X) (posOf X) (cellsOf X) (varsOf X) (oldsOf X) n a (record {
-    words = logOf (usedAt (news ++ ms)) L; more = run from len S ++ stop; log = e; pos = posOf L; cells = cellsOf L; vars = varsOf L; olds = oldsOf L; stood = w .stand;
-    left = subst (λ (U : List Word). Left U (posOf L) (cellsOf L) (varsOf L) (oldsOf L) (trailAt (news ++ ms)) (appsAt (news ++ ms)) (posOf X) (cellsOf X) (varsOf X) (oldsOf X) n a) (sym e) l }) }
+    words = logOf (usedAt (news ++ ms)) L;
+    more = run from len S ++ stop;
+    log = e;
+    pos = posOf L;
+    cells = cellsOf L;
+    vars = varsOf L;
+    olds = oldsOf L;
+    stood = w .stand;
+    left = subst (λ (U : List Word). Left U (posOf L) (cellsOf L) (varsOf L) (oldsOf L) (trailAt (news ++ ms)) (appsAt (news ++ ms)) (posOf X) (cellsOf X) (varsOf X) (oldsOf X) n a) (sym e) l;
+  });
+}
 
 pub failed-returns : (news ms : List Mark) (S : List Word) (L X : List ℕ) (from len n a : ℕ) → Walk L (news ++ ms) → CanPush S L (usedAt (news ++ ms)) (trailAt (news ++ ms)) (appsAt (news ++ ms)) from len → Pushed S L (usedAt (news ++ ms)) (trailAt (news ++ ms)) (appsAt (news ++ ms)) from len X (Failed n a) → Returns X n ms
 failed-returns news ms S L X from len n a w c p = left-returns news ms S L X from len n a w (c .room .room) (p .rest) (p .log) (p .told .left)
@@ -147,7 +168,7 @@ pub walk-searched : (ms : List Mark) (L X : List ℕ) → Walk L ms → Searched
 walk-searched ms L X w s = walk-kept ms L X w (kept-searched (trailAt ms) s) (searched-tried s)
 
 -- and after a change behind the log: marks of locals, what walks and answers need
-pub walk-beside : (ms : List Mark) (L X : List ℕ) (e : ℕ) → Walk L ms → Outside 376832 e L X → Walk X ms
+pub walk-beside : (ms : List Mark) (L X : List ℕ) (e : ℕ) → Walk L ms → Outside 335872 e L X → Walk X ms
 unfolding posOf cellsOf varsOf oldsOf logOf
 walk-beside ms L X e w o =
     let g = w .laid .long in
@@ -155,5 +176,5 @@ walk-beside ms L X e w o =
     record {
       laid = laid-after (w .laid) o;
       room = r;
-      stand = stand-at ms (sym (ap words (cut-left 303104 (303104 + 3 * usedAt ms) (omega arith) (omega arith) (omega arith) o))) (sym (ap longs (cut-left 294912 303104 (omega arith) (omega arith) (omega arith) o))) (sym (ap triples (cut-left 16384 212992 (omega arith) (omega arith) (omega arith) o))) (sym (ap shorts (cut-left 212992 245760 (omega arith) (omega arith) (omega arith) o))) (sym (ap triples (cut-left 245760 294912 (omega arith) (omega arith) (omega arith) o))) (w .stand);
+      stand = stand-at ms (sym (ap words (cut-left 262144 (262144 + 3 * usedAt ms) (omega arith) (omega arith) (omega arith) o))) (sym (ap longs (cut-left 253952 262144 (omega arith) (omega arith) (omega arith) o))) (sym (ap triples (cut-left 16384 212992 (omega arith) (omega arith) (omega arith) o))) (sym (ap shorts (cut-left 212992 229376 (omega arith) (omega arith) (omega arith) o))) (sym (ap triples (cut-left 229376 253952 (omega arith) (omega arith) (omega arith) o))) (w .stand);
     }

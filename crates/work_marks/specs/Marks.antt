@@ -8,7 +8,7 @@ use Rattle.constraint.specs.Constraint.{Store}
 use Rattle.mem_words.specs.declared.Word.{Word}
 use Rattle.mem_copies.specs.Runs.{run}
 use Rattle.solve_fields.specs.Read.{told}
-use Rattle.solve_tells.specs.Tells.{State, Means, Left}
+use Rattle.solve_tells.specs.Tells.{State, Means, Left, appsOf}
 use Rattle.work_tables.specs.Tables.{cellsOf, varsOf, oldsOf, posOf, logOf, Laid}
 use Rattle.work_log.specs.Logs.{stop}
 use Rattle.work_grows.specs.Closed.{Closed}
@@ -41,6 +41,10 @@ allTold lab (m ∷ ms) = allTold lab ms ++ m .store lab
 -- the constraints that begin in the range of a store's words
 abbrev pub rangeTold : List Word → ℕ → ℕ → (ℕ → Label) → Store
 rangeTold S from len lab = told lab len (run from len S ++ stop)
+
+-- how many applications begin in it
+abbrev pub appsTold : List Word → ℕ → ℕ → ℕ
+appsTold S from len = appsOf len (run from len S ++ stop)
 
 -- the mark after a range of S was told
 abbrev pub after : List Mark → List Word → ℕ → ℕ → ℕ → ℕ → Mark

@@ -1,8 +1,9 @@
-// Two applications are met in the working slice: one label, and as many arguments, joined pair by pair. The contract is that of
-// `solve_meets`, at the tables of the slice.
-ghost use Rattle.solve_trails.specs.Steps.{CanMeet, Meeting};
+// Two applications are met in the working slice: one label, and as many arguments, joined pair by pair. The contract is stated by
+// `solve_tells`, at the tables of the slice.
+ghost use Rattle.solve_tells.specs.Steps.{CanMeet, Meeting};
 ghost use Rattle.work_tables.specs.Tables.{cellsOf, varsOf, oldsOf, logOf, Laid, Logged, Moved};
-use solve_trails::Went;
+use mem_variables::Variable;
+use solve_tells::Went;
 
 // Makes the applications at `p` and `q` equal: one label, and as many arguments, joined pair by pair.
 pub fn meet(w: &mut [u8], used: usize, n: usize, p: usize, q: usize) -> Went
@@ -33,7 +34,9 @@ pub fn meet(w: &mut [u8], used: usize, n: usize, p: usize, q: usize) -> Went
         if !work_cells::roomy(w, k) {
             return Went::Full(k);
         }
-        k = work_classes::join(w, k, solve_fields::var_of(v), solve_fields::var_of(u));
+        let x = solve_fields::var_of(v);
+        let y = solve_fields::var_of(u);
+        k = work_classes::join(w, k, Variable(x), Variable(y));
         i += 1;
     }
 }

@@ -1,10 +1,11 @@
 // Whether the variables that were unbound before a mark, locals aside, are unbound still and each alone in its class, in the
-// working slice. The contracts are those of `solve_owners`, at the tables of the slice.
+// working slice. The contracts are stated by `solve_quiet`, at the tables of the slice.
 ghost use mathlib.Core.List.{List};
 ghost use Prim.Native.Nat.{ℕ, _+_};
-ghost use Rattle.solve_owners.specs.Owners.{CanLookOne, CanOwn, Looking, CanLookAll};
+ghost use Rattle.solve_quiet.specs.Owners.{CanLookOne, CanOwn, Looking, CanLookAll};
 ghost use Rattle.work_tables.specs.Tables.{cellsOf, varsOf, oldsOf, localsOf, Laid, Moved};
-use solve_owners::Owned;
+use mem_variables::Variable;
+use solve_quiet::Owned;
 
 // Looks at the trail's entry `i`: a variable that was unbound and is no local is unbound still, and alone in its class.
 fn own_one(w: &mut [u8], i: usize, m: usize) -> Owned
@@ -19,15 +20,15 @@ fn own_one(w: &mut [u8], i: usize, m: usize) -> Owned
     if work_tables::local_get(w, x) != 0 {
         return Owned::Apart(m);
     }
-    let r = work_cells::find(w, x);
-    let d = work_trail::cell_get(w, r);
+    let r = work_cells::find(w, Variable(x));
+    let d = work_trail::cell_get(w, r.0);
     if d % 4 == 2 {
         return Owned::Joint(m);
     }
-    if r == x {
+    if r.0 == x {
         return Owned::Apart(m);
     }
-    if work_tables::local_get(w, r) == 0 {
+    if work_tables::local_get(w, r.0) == 0 {
         return Owned::Joint(m);
     }
     if d % 4 == 3 {

@@ -1,5 +1,5 @@
 // Constraints told from ranges of the log to the tables of the working slice, and taken back to an earlier mark. The contracts are
-// those of `solve_ranges`, at the tables of the slice.
+// stated by `solve_tells`, at the tables of the slice.
 ghost use Rattle.solve_tells.specs.Tells.{CanTell, Telling, rangeOf, appsIn, CanBack};
 ghost use Rattle.work_tables.specs.Tables.{cellsOf, varsOf, oldsOf, posOf, logOf, Laid, Logged, Noted};
 ghost use Rattle.work_tells.specs.Positions.{Ahead};

@@ -1,7 +1,7 @@
 // Stores against environments: the rows of document 01 on constraints, and the readings that fit the page and not the
 // rule. Writes q for quiet and l for not, a letter for each row: on the working slice.
 use libc::STDOUT_FILENO;
-use solve_verdicts::Judged;
+use work_judge::Judged;
 
 fn letter(r: Judged) -> u8 {
     match r {

@@ -4,12 +4,12 @@
 --   4,096     its stack                                               2,048   2
 --   8,192     the arguments that are done, for each on the stack      2,048   4
 --   16,384    cells of variables                                     65,536   3
---   212,992   the trail: variables                                   16,384   2
---   245,760   the trail: old cells                                   16,384   3
---   294,912   positions of applications in the log                    2,048   4
---   303,104   the log: words of what was told                        24,576   3
---   376,832   marks of locals                                        65,536   1
---   442,368   81,920 bytes for what walks and answers need, up to 524,288
+--   212,992   the trail: variables                                    8,192   2
+--   229,376   the trail: old cells                                    8,192   3
+--   253,952   positions of applications in the log                    2,048   4
+--   262,144   the log: words of what was told                        24,576   3
+--   335,872   marks of locals                                        65,536   1
+--   401,408   122,880 bytes for what walks and answers need, up to 524,288
 -- Tables that change together stand side by side: the cycle test changes what lies below 16,384, a step of telling the cells and the trail.
 use mathlib.Core.Path.{_≡_, refl, ap, sym, _∙_, subst}
 use mathlib.Core.List.{List}
@@ -36,20 +36,20 @@ unfoldable pub cellsOf : List ℕ → List ℕ
 cellsOf L = triples (cut 16384 212992 L)
 
 unfoldable pub varsOf : List ℕ → List ℕ
-varsOf L = shorts (cut 212992 245760 L)
+varsOf L = shorts (cut 212992 229376 L)
 
 unfoldable pub oldsOf : List ℕ → List ℕ
-oldsOf L = triples (cut 245760 294912 L)
+oldsOf L = triples (cut 229376 253952 L)
 
 unfoldable pub posOf : List ℕ → List ℕ
-posOf L = longs (cut 294912 303104 L)
+posOf L = longs (cut 253952 262144 L)
 
 unfoldable pub localsOf : List ℕ → List ℕ
-localsOf L = cut 376832 442368 L
+localsOf L = cut 335872 401408 L
 
 -- the first k words of the log, which are those in use
 unfoldable pub logOf : ℕ → List ℕ → List Word
-logOf k L = words (cut 303104 (303104 + 3 * k) L)
+logOf k L = words (cut 262144 (262144 + 3 * k) L)
 
 -- the slice is long enough
 pub record Laid (L : List ℕ) : Type 0 where
@@ -68,13 +68,13 @@ abbrev pub Searched : List ℕ → List ℕ → Type 0
 Searched L X = Outside 0 16384 L X
 
 abbrev pub Moved : List ℕ → List ℕ → Type 0
-Moved L X = Outside 16384 294912 L X
+Moved L X = Outside 16384 253952 L X
 
 abbrev pub Tried : List ℕ → List ℕ → Type 0
-Tried L X = Outside 0 294912 L X
+Tried L X = Outside 0 253952 L X
 
 abbrev pub Noted : List ℕ → List ℕ → Type 0
-Noted L X = Outside 16384 303104 L X
+Noted L X = Outside 16384 262144 L X
 
 pub record CanRead (L : List ℕ) (most i : ℕ) : Type 0 where
   pub laid : Laid L
@@ -105,29 +105,29 @@ pub length-cell : {L : List ℕ} → Laid L → length (cellsOf L) ≡ 65536
 unfolding cellsOf
 length-cell {L} h = let k = h .long in let n : length (cut 16384 212992 L) ≡ 196608 = length-cut 16384 212992 L (omega arith) in length-triples (cut 16384 212992 L) ∙ ap (λ (n : ℕ). n / 3) n
 
-pub length-var : {L : List ℕ} → Laid L → length (varsOf L) ≡ 16384
+pub length-var : {L : List ℕ} → Laid L → length (varsOf L) ≡ 8192
 unfolding varsOf
-length-var {L} h = let k = h .long in let n : length (cut 212992 245760 L) ≡ 32768 = length-cut 212992 245760 L (omega arith) in length-shorts (cut 212992 245760 L) ∙ ap (λ (n : ℕ). n / 2) n
+length-var {L} h = let k = h .long in let n : length (cut 212992 229376 L) ≡ 16384 = length-cut 212992 229376 L (omega arith) in length-shorts (cut 212992 229376 L) ∙ ap (λ (n : ℕ). n / 2) n
 
-pub length-old : {L : List ℕ} → Laid L → length (oldsOf L) ≡ 16384
+pub length-old : {L : List ℕ} → Laid L → length (oldsOf L) ≡ 8192
 unfolding oldsOf
-length-old {L} h = let k = h .long in let n : length (cut 245760 294912 L) ≡ 49152 = length-cut 245760 294912 L (omega arith) in length-triples (cut 245760 294912 L) ∙ ap (λ (n : ℕ). n / 3) n
+length-old {L} h = let k = h .long in let n : length (cut 229376 253952 L) ≡ 24576 = length-cut 229376 253952 L (omega arith) in length-triples (cut 229376 253952 L) ∙ ap (λ (n : ℕ). n / 3) n
 
 pub length-pos : {L : List ℕ} → Laid L → length (posOf L) ≡ 2048
 unfolding posOf
-length-pos {L} h = let k = h .long in let n : length (cut 294912 303104 L) ≡ 8192 = length-cut 294912 303104 L (omega arith) in length-longs (cut 294912 303104 L) ∙ ap (λ (n : ℕ). n / 4) n
+length-pos {L} h = let k = h .long in let n : length (cut 253952 262144 L) ≡ 8192 = length-cut 253952 262144 L (omega arith) in length-longs (cut 253952 262144 L) ∙ ap (λ (n : ℕ). n / 4) n
 
 pub length-locals : {L : List ℕ} → Laid L → length (localsOf L) ≡ 65536
 unfolding localsOf
-length-locals {L} h = let k = h .long in length-cut 376832 442368 L (omega arith)
+length-locals {L} h = let k = h .long in length-cut 335872 401408 L (omega arith)
 
 pub length-log : {L : List ℕ} (k : ℕ) → Laid L → Logged k → length (logOf k L) ≡ k
 unfolding logOf
 length-log {L} k h l =
     let g = h .long in let m = l .most in
-    let n : length (cut 303104 (303104 + 3 * k) L) ≡ 3 * k = length-cut 303104 (303104 + 3 * k) L (omega arith) ∙ (omega arith) in
+    let n : length (cut 262144 (262144 + 3 * k) L) ≡ 3 * k = length-cut 262144 (262144 + 3 * k) L (omega arith) ∙ (omega arith) in
     let q : 3 * k / 3 ≡ k = omega arith in
-    length-words (cut 303104 (303104 + 3 * k) L) ∙ ap (λ (n : ℕ). n / 3) n ∙ q
+    length-words (cut 262144 (262144 + 3 * k) L) ∙ ap (λ (n : ℕ). n / 3) n ∙ q
 
 -- a table that lies behind what was changed, or before it, is as it was
 pub searched-cell : {L X : List ℕ} → Searched L X → cellsOf X ≡ cellsOf L
@@ -136,55 +136,55 @@ searched-cell p = ap triples (cut-right 16384 212992 (omega arith) p)
 
 pub searched-var : {L X : List ℕ} → Searched L X → varsOf X ≡ varsOf L
 unfolding varsOf
-searched-var p = ap shorts (cut-right 212992 245760 (omega arith) p)
+searched-var p = ap shorts (cut-right 212992 229376 (omega arith) p)
 
 pub searched-old : {L X : List ℕ} → Searched L X → oldsOf X ≡ oldsOf L
 unfolding oldsOf
-searched-old p = ap triples (cut-right 245760 294912 (omega arith) p)
+searched-old p = ap triples (cut-right 229376 253952 (omega arith) p)
 
 pub searched-pos : {L X : List ℕ} → Searched L X → posOf X ≡ posOf L
 unfolding posOf
-searched-pos p = ap longs (cut-right 294912 303104 (omega arith) p)
+searched-pos p = ap longs (cut-right 253952 262144 (omega arith) p)
 
 pub searched-locals : {L X : List ℕ} → Searched L X → localsOf X ≡ localsOf L
 unfolding localsOf
-searched-locals p = cut-right 376832 442368 (omega arith) p
+searched-locals p = cut-right 335872 401408 (omega arith) p
 
 pub searched-log : {L X : List ℕ} (k : ℕ) → Searched L X → logOf k X ≡ logOf k L
 unfolding logOf
-searched-log k p = ap words (cut-right 303104 (303104 + 3 * k) (omega arith) p)
+searched-log k p = ap words (cut-right 262144 (262144 + 3 * k) (omega arith) p)
 
 pub moved-pos : {L X : List ℕ} → Moved L X → posOf X ≡ posOf L
 unfolding posOf
-moved-pos p = ap longs (cut-right 294912 303104 (omega arith) p)
+moved-pos p = ap longs (cut-right 253952 262144 (omega arith) p)
 
 pub moved-locals : {L X : List ℕ} → Moved L X → localsOf X ≡ localsOf L
 unfolding localsOf
-moved-locals p = cut-right 376832 442368 (omega arith) p
+moved-locals p = cut-right 335872 401408 (omega arith) p
 
 pub moved-log : {L X : List ℕ} (k : ℕ) → Moved L X → logOf k X ≡ logOf k L
 unfolding logOf
-moved-log k p = ap words (cut-right 303104 (303104 + 3 * k) (omega arith) p)
+moved-log k p = ap words (cut-right 262144 (262144 + 3 * k) (omega arith) p)
 
 pub tried-pos : {L X : List ℕ} → Tried L X → posOf X ≡ posOf L
 unfolding posOf
-tried-pos p = ap longs (cut-right 294912 303104 (omega arith) p)
+tried-pos p = ap longs (cut-right 253952 262144 (omega arith) p)
 
 pub tried-locals : {L X : List ℕ} → Tried L X → localsOf X ≡ localsOf L
 unfolding localsOf
-tried-locals p = cut-right 376832 442368 (omega arith) p
+tried-locals p = cut-right 335872 401408 (omega arith) p
 
 pub tried-log : {L X : List ℕ} (k : ℕ) → Tried L X → logOf k X ≡ logOf k L
 unfolding logOf
-tried-log k p = ap words (cut-right 303104 (303104 + 3 * k) (omega arith) p)
+tried-log k p = ap words (cut-right 262144 (262144 + 3 * k) (omega arith) p)
 
 pub noted-locals : {L X : List ℕ} → Noted L X → localsOf X ≡ localsOf L
 unfolding localsOf
-noted-locals p = cut-right 376832 442368 (omega arith) p
+noted-locals p = cut-right 335872 401408 (omega arith) p
 
 pub noted-log : {L X : List ℕ} (k : ℕ) → Noted L X → logOf k X ≡ logOf k L
 unfolding logOf
-noted-log k p = ap words (cut-right 303104 (303104 + 3 * k) (omega arith) p)
+noted-log k p = ap words (cut-right 262144 (262144 + 3 * k) (omega arith) p)
 
 pub moved-mark : {L X : List ℕ} → Laid L → Moved L X → marksOf X ≡ marksOf L
 unfolding marksOf
@@ -199,13 +199,13 @@ unfolding donesOf
 moved-done h p = ap longs (cut-left 8192 16384 (omega arith) (omega arith) (omega (arith, h .long)) p)
 
 pub moved-tried : {L X : List ℕ} → Moved L X → Tried L X
-moved-tried p = outside-wide 0 294912 (omega arith) (omega arith) p
+moved-tried p = outside-wide 0 253952 (omega arith) (omega arith) p
 
 pub searched-tried : {L X : List ℕ} → Searched L X → Tried L X
-searched-tried p = outside-wide 0 294912 (omega arith) (omega arith) p
+searched-tried p = outside-wide 0 253952 (omega arith) (omega arith) p
 
 pub moved-noted : {L X : List ℕ} → Moved L X → Noted L X
-moved-noted p = outside-wide 16384 303104 (omega arith) (omega arith) p
+moved-noted p = outside-wide 16384 262144 (omega arith) (omega arith) p
 
 pub same-moved : {L : List ℕ} → Moved L L
 same-moved = record { before = refl; after = refl; long = refl }

@@ -121,78 +121,78 @@ pub put-cell : {L X : List ℕ} {i v : ℕ} → Laid L → Set3 16384 212992 L i
 unfolding cellsOf varsOf oldsOf
 put-cell h s = record {
   cell = s .part;
-  var = ap shorts (cut-right 212992 245760 (omega arith) (s .rest));
-  old = ap triples (cut-right 245760 294912 (omega arith) (s .rest));
-  rest = outside-wide 16384 294912 (omega arith) (omega arith) (s .rest);
+  var = ap shorts (cut-right 212992 229376 (omega arith) (s .rest));
+  old = ap triples (cut-right 229376 253952 (omega arith) (s .rest));
+  rest = outside-wide 16384 253952 (omega arith) (omega arith) (s .rest);
 }
 
-pub get-var : {L : List ℕ} {i : ℕ} → CanRead L 16384 i → CanGet 212992 245760 L (shorts (cut 212992 245760 L)) i
+pub get-var : {L : List ℕ} {i : ℕ} → CanRead L 8192 i → CanGet 212992 229376 L (shorts (cut 212992 229376 L)) i
 unfolding varsOf
 get-var h = record { le = omega arith; fits = omega (arith, h .laid .long); inside = omega (arith, h .inside, length-var (h .laid)) }
 
-pub set-var : {L : List ℕ} {i v : ℕ} → CanWrite L 16384 i 65536 v → CanSet 212992 245760 L (shorts (cut 212992 245760 L)) i 65536 v
+pub set-var : {L : List ℕ} {i v : ℕ} → CanWrite L 8192 i 65536 v → CanSet 212992 229376 L (shorts (cut 212992 229376 L)) i 65536 v
 unfolding varsOf
 set-var h = record { le = omega arith; fits = omega (arith, h .laid .long); inside = omega (arith, h .inside, length-var (h .laid)); small = h .small }
 
-pub put-var : {L X : List ℕ} {i v : ℕ} → Laid L → Set2 212992 245760 L i v X → PutVar L i v X
+pub put-var : {L X : List ℕ} {i v : ℕ} → Laid L → Set2 212992 229376 L i v X → PutVar L i v X
 unfolding cellsOf varsOf oldsOf
 put-var h s = record {
   cell = ap triples (cut-left 16384 212992 (omega arith) (omega arith) (omega (arith, h .long)) (s .rest));
   var = s .part;
-  old = ap triples (cut-right 245760 294912 (omega arith) (s .rest));
-  rest = outside-wide 16384 294912 (omega arith) (omega arith) (s .rest);
+  old = ap triples (cut-right 229376 253952 (omega arith) (s .rest));
+  rest = outside-wide 16384 253952 (omega arith) (omega arith) (s .rest);
 }
 
-pub get-old : {L : List ℕ} {i : ℕ} → CanRead L 16384 i → CanGet 245760 294912 L (triples (cut 245760 294912 L)) i
+pub get-old : {L : List ℕ} {i : ℕ} → CanRead L 8192 i → CanGet 229376 253952 L (triples (cut 229376 253952 L)) i
 unfolding oldsOf
 get-old h = record { le = omega arith; fits = omega (arith, h .laid .long); inside = omega (arith, h .inside, length-old (h .laid)) }
 
-pub set-old : {L : List ℕ} {i v : ℕ} → CanWrite L 16384 i 16777216 v → CanSet 245760 294912 L (triples (cut 245760 294912 L)) i 16777216 v
+pub set-old : {L : List ℕ} {i v : ℕ} → CanWrite L 8192 i 16777216 v → CanSet 229376 253952 L (triples (cut 229376 253952 L)) i 16777216 v
 unfolding oldsOf
 set-old h = record { le = omega arith; fits = omega (arith, h .laid .long); inside = omega (arith, h .inside, length-old (h .laid)); small = h .small }
 
-pub put-old : {L X : List ℕ} {i v : ℕ} → Laid L → Set3 245760 294912 L i v X → PutOld L i v X
+pub put-old : {L X : List ℕ} {i v : ℕ} → Laid L → Set3 229376 253952 L i v X → PutOld L i v X
 unfolding cellsOf varsOf oldsOf
 put-old h s = record {
   cell = ap triples (cut-left 16384 212992 (omega arith) (omega arith) (omega (arith, h .long)) (s .rest));
-  var = ap shorts (cut-left 212992 245760 (omega arith) (omega arith) (omega (arith, h .long)) (s .rest));
+  var = ap shorts (cut-left 212992 229376 (omega arith) (omega arith) (omega (arith, h .long)) (s .rest));
   old = s .part;
-  rest = outside-wide 16384 294912 (omega arith) (omega arith) (s .rest);
+  rest = outside-wide 16384 253952 (omega arith) (omega arith) (s .rest);
 }
 
-pub get-pos : {L : List ℕ} {i : ℕ} → CanRead L 2048 i → CanGet 294912 303104 L (longs (cut 294912 303104 L)) i
+pub get-pos : {L : List ℕ} {i : ℕ} → CanRead L 2048 i → CanGet 253952 262144 L (longs (cut 253952 262144 L)) i
 unfolding posOf
 get-pos h = record { le = omega arith; fits = omega (arith, h .laid .long); inside = omega (arith, h .inside, length-pos (h .laid)) }
 
-pub set-pos : {L : List ℕ} {i v : ℕ} → CanWrite L 2048 i 4294967296 v → CanSet 294912 303104 L (longs (cut 294912 303104 L)) i 4294967296 v
+pub set-pos : {L : List ℕ} {i v : ℕ} → CanWrite L 2048 i 4294967296 v → CanSet 253952 262144 L (longs (cut 253952 262144 L)) i 4294967296 v
 unfolding posOf
 set-pos h = record { le = omega arith; fits = omega (arith, h .laid .long); inside = omega (arith, h .inside, length-pos (h .laid)); small = h .small }
 
-pub put-pos : {L X : List ℕ} {i v : ℕ} → Laid L → Set4 294912 303104 L i v X → PutPos L i v X
+pub put-pos : {L X : List ℕ} {i v : ℕ} → Laid L → Set4 253952 262144 L i v X → PutPos L i v X
 unfolding cellsOf varsOf oldsOf posOf logOf
 put-pos h s = record {
   cell = ap triples (cut-left 16384 212992 (omega arith) (omega arith) (omega (arith, h .long)) (s .rest));
-  var = ap shorts (cut-left 212992 245760 (omega arith) (omega arith) (omega (arith, h .long)) (s .rest));
-  old = ap triples (cut-left 245760 294912 (omega arith) (omega arith) (omega (arith, h .long)) (s .rest));
+  var = ap shorts (cut-left 212992 229376 (omega arith) (omega arith) (omega (arith, h .long)) (s .rest));
+  old = ap triples (cut-left 229376 253952 (omega arith) (omega arith) (omega (arith, h .long)) (s .rest));
   pos = s .part;
-  log = λ k. ap words (cut-right 303104 (303104 + 3 * k) (omega arith) (s .rest));
-  rest = outside-wide 16384 303104 (omega arith) (omega arith) (s .rest);
+  log = λ k. ap words (cut-right 262144 (262144 + 3 * k) (omega arith) (s .rest));
+  rest = outside-wide 16384 262144 (omega arith) (omega arith) (s .rest);
 }
 
 -- a mark of a local is written, and nothing else
 pub record PutLocal (L : List ℕ) (i v : ℕ) (X : List ℕ) : Type 0 where
   pub locals : Stored (localsOf L) i v (localsOf X)
-  pub rest : Outside 376832 442368 L X
+  pub rest : Outside 335872 401408 L X
 
-pub get-local : {L : List ℕ} {i : ℕ} → CanRead L 65536 i → CanGet 376832 442368 L (cut 376832 442368 L) i
+pub get-local : {L : List ℕ} {i : ℕ} → CanRead L 65536 i → CanGet 335872 401408 L (cut 335872 401408 L) i
 unfolding localsOf
 get-local h = record { le = omega arith; fits = omega (arith, h .laid .long); inside = omega (arith, h .inside, length-locals (h .laid)) }
 
-pub set-local : {L : List ℕ} {i v : ℕ} → CanWrite L 65536 i 256 v → CanSet 376832 442368 L (cut 376832 442368 L) i 256 v
+pub set-local : {L : List ℕ} {i v : ℕ} → CanWrite L 65536 i 256 v → CanSet 335872 401408 L (cut 335872 401408 L) i 256 v
 unfolding localsOf
 set-local h = record { le = omega arith; fits = omega (arith, h .laid .long); inside = omega (arith, h .inside, length-locals (h .laid)); small = h .small }
 
-pub put-local : {L X : List ℕ} {i v : ℕ} → Laid L → Set1 376832 442368 L i v X → PutLocal L i v X
+pub put-local : {L X : List ℕ} {i v : ℕ} → Laid L → Set1 335872 401408 L i v X → PutLocal L i v X
 unfolding localsOf
 put-local h s = record { locals = s .part; rest = s .rest }
 

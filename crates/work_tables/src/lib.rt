@@ -15,7 +15,7 @@ pub fn pos_get(w: &[u8], i: usize) -> usize
     requires { ⌜ CanRead (now w) 2048 i ⌝ }
     ensures { λ r. ⌜ Got (posOf (now (w .entry))) i 4294967296 r ⌝ }
 {
-    mem_parts::get4(w, 294912, 303104, i)
+    mem_parts::get4(w, 253952, 262144, i)
 }
 
 // Makes `v` the application's position at `i`.
@@ -23,7 +23,7 @@ pub fn pos_put(w: &mut [u8], i: usize, v: usize)
     requires { ⌜ CanWrite (now w) 2048 i 4294967296 v ⌝ }
     ensures { λ _. ⌜ PutPos (now (w .entry)) i v (now (w .exit)) ⌝ }
 {
-    mem_parts::put4(w, 294912, 303104, i, v);
+    mem_parts::put4(w, 253952, 262144, i, v);
 }
 
 // The mark of the variable `x`: 0 if it is no local.
@@ -31,7 +31,7 @@ pub fn local_get(w: &[u8], x: usize) -> usize
     requires { ⌜ CanRead (now w) 65536 x ⌝ }
     ensures { λ r. ⌜ Got (localsOf (now (w .entry))) x 256 r ⌝ }
 {
-    mem_parts::get1(w, 376832, 442368, x)
+    mem_parts::get1(w, 335872, 401408, x)
 }
 
 // Makes `v` the mark of the variable `x`.
@@ -39,7 +39,7 @@ pub fn local_put(w: &mut [u8], x: usize, v: usize)
     requires { ⌜ CanWrite (now w) 65536 x 256 v ⌝ }
     ensures { λ _. ⌜ PutLocal (now (w .entry)) x v (now (w .exit)) ⌝ }
 {
-    mem_parts::put1(w, 376832, 442368, x, v);
+    mem_parts::put1(w, 335872, 401408, x, v);
 }
 
 // The word at `i` of the part; past its end there is none.
@@ -55,6 +55,6 @@ pub fn peek(w: &[u8], k: usize, i: usize) -> Word
     requires { ⌜ Laid (now w) × Logged k ⌝ }
     ensures { λ r. ⌜ Peeked (logOf k (now (w .entry))) i r ⌝ }
 {
-    let e = 303104 + 3 * k;
-    word_in(w, 303104, e, i)
+    let e = 262144 + 3 * k;
+    word_in(w, 262144, e, i)
 }

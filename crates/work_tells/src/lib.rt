@@ -1,11 +1,12 @@
-// The constraint that a word of the log begins is told to the tables of the working slice. The contract is that of
-// `solve_tells`, at the tables of the slice, and that a new application stands where the word does.
+// The constraint that a word of the log begins is told to the tables of the working slice. The contract is stated by
+// `solve_tells`, at the tables of the slice; besides, a new application stands where the word does.
 ghost use Prim.Native.Nat.{_+_};
 ghost use Rattle.solve_tells.specs.Tells.{CanOne, Telling, oneAt, appsAt};
 ghost use Rattle.work_tables.specs.Tables.{cellsOf, varsOf, oldsOf, posOf, logOf, Laid, Logged, Noted};
 ghost use Rattle.work_tells.specs.Positions.{Ahead};
+use mem_variables::Variable;
 use solve_tells::Told;
-use solve_trails::Went;
+use solve_tells::Went;
 
 // Tells the constraint that the word at `i` begins, if it begins one.
 pub fn tell_one(w: &mut [u8], used: usize, n: usize, a: usize, i: usize) -> Told
@@ -20,7 +21,7 @@ pub fn tell_one(w: &mut [u8], used: usize, n: usize, a: usize, i: usize) -> Told
     if b == 2 {
         let x = solve_fields::var_of(work_tables::peek(w, used, j));
         let y = solve_fields::var_of(work_tables::peek(w, used, j + 1));
-        let r = work_takes::equate(w, used, n, x, y);
+        let r = work_takes::equate(w, used, n, Variable(x), Variable(y));
         match r {
             Went::On(m) => {
                 return Told::All(m, a);
@@ -40,7 +41,7 @@ pub fn tell_one(w: &mut [u8], used: usize, n: usize, a: usize, i: usize) -> Told
         let k = a + 1;
         work_tables::pos_put(w, a, i);
         let z = solve_fields::var_of(work_tables::peek(w, used, j));
-        let v = work_takes::apply(w, used, n, z, a);
+        let v = work_takes::apply(w, used, n, Variable(z), a);
         match v {
             Went::On(m) => {
                 return Told::All(m, k);

@@ -1,16 +1,17 @@
 // Unification in the working slice: a binding is held against its class, and what joins took away is settled until nothing is
-// left. The contracts are those of `solve_unify`, at the tables of the slice.
-ghost use Rattle.solve_trails.specs.Steps.{CanHold, Holding, CanSettle, Settling};
+// left. The contracts are stated by `solve_tells`, at the tables of the slice.
+ghost use Rattle.solve_tells.specs.Steps.{CanHold, Holding, CanSettle, Settling};
 ghost use Rattle.work_tables.specs.Tables.{cellsOf, varsOf, oldsOf, posOf, logOf, Laid, Logged, Moved};
-use solve_trails::Went;
+use mem_variables::Variable;
+use solve_tells::Went;
 
 // Asks the application `k` of `x`: binds its class, or meets what it is bound to.
-pub fn hold(w: &mut [u8], used: usize, n: usize, x: usize, k: usize) -> Went
-    requires { ⌜ Laid (now w) × Logged used × CanHold (logOf used (now w)) (posOf (now w)) (cellsOf (now w)) (varsOf (now w)) (oldsOf (now w)) n x k ⌝ }
-    ensures { λ r. ⌜ Holding (logOf used (now (w .entry))) (posOf (now (w .entry))) (cellsOf (now (w .entry))) (varsOf (now (w .entry))) (oldsOf (now (w .entry))) n x k (cellsOf (now (w .exit))) (varsOf (now (w .exit))) (oldsOf (now (w .exit))) r × Moved (now (w .entry)) (now (w .exit)) ⌝ }
+pub fn hold(w: &mut [u8], used: usize, n: usize, x: Variable, k: usize) -> Went
+    requires { ⌜ Laid (now w) × Logged used × CanHold (logOf used (now w)) (posOf (now w)) (cellsOf (now w)) (varsOf (now w)) (oldsOf (now w)) n (x .0) k ⌝ }
+    ensures { λ r. ⌜ Holding (logOf used (now (w .entry))) (posOf (now (w .entry))) (cellsOf (now (w .entry))) (varsOf (now (w .entry))) (oldsOf (now (w .entry))) n (x .0) k (cellsOf (now (w .exit))) (varsOf (now (w .exit))) (oldsOf (now (w .exit))) r × Moved (now (w .entry)) (now (w .exit)) ⌝ }
 {
     let r = work_cells::find(w, x);
-    let c = work_trail::cell_get(w, r);
+    let c = work_trail::cell_get(w, r.0);
     if c % 4 == 2 {
         let j = c / 256;
         if j == k {
@@ -40,7 +41,7 @@ pub fn settle(w: &mut [u8], used: usize, from: usize, n: usize) -> Went
         let c = work_trail::old_get(w, i);
         i += 1;
         if c % 4 == 2 {
-            let r = hold(w, used, m, x, c / 256);
+            let r = hold(w, used, m, Variable(x), c / 256);
             match r {
                 Went::On(e) => {
                     m = e;

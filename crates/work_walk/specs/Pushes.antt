@@ -35,7 +35,7 @@ pub record Pushed (S : List Word) (L : List ℕ) (used n a from len : ℕ) (X : 
   pub told : Telling (longer S L used from len) (posOf L) (cellsOf L) (varsOf L) (oldsOf L) n a (appsIn (longer S L used from len) used (used + len)) (rangeOf (longer S L used from len) used (used + len)) (posOf X) (cellsOf X) (varsOf X) (oldsOf X) r
   pub log : logOf (used + len + 3) X ≡ longer S L used from len
   pub ahead : Ahead a (used + len) (posOf X) r
-  pub rest : Outside 16384 376832 L X
+  pub rest : Outside 16384 335872 L X
 
 vars-append : (A B : List Word) (s : ℕ) → Vars A s → Vars B s → Vars (A ++ B) s
 vars-append A B s p q = record { low = λ i. go i (decLt i (length A)) }
@@ -69,21 +69,21 @@ vars-stop s z = record { low = go }
     go (suc (suc (suc i))) = z
 
 -- the log alone was changed
-pub logged-to : {L Y : List ℕ} (Q : List ℕ → List ℕ → List ℕ → List ℕ → Type 0) → Laid L → Outside 303104 376832 L Y → Q (posOf L) (cellsOf L) (varsOf L) (oldsOf L) → Q (posOf Y) (cellsOf Y) (varsOf Y) (oldsOf Y)
+pub logged-to : {L Y : List ℕ} (Q : List ℕ → List ℕ → List ℕ → List ℕ → Type 0) → Laid L → Outside 262144 335872 L Y → Q (posOf L) (cellsOf L) (varsOf L) (oldsOf L) → Q (posOf Y) (cellsOf Y) (varsOf Y) (oldsOf Y)
 unfolding posOf cellsOf varsOf oldsOf
 logged-to {L} {Y} Q h p q =
-    subst (λ (T : List ℕ). Q T (cellsOf Y) (varsOf Y) (oldsOf Y)) (sym (ap longs (cut-left 294912 303104 (omega arith) (omega arith) (omega (arith, h .long)) p)))
+    subst (λ (T : List ℕ). Q T (cellsOf Y) (varsOf Y) (oldsOf Y)) (sym (ap longs (cut-left 253952 262144 (omega arith) (omega arith) (omega (arith, h .long)) p)))
     (subst (λ (T : List ℕ). Q (posOf L) T (varsOf Y) (oldsOf Y)) (sym (ap triples (cut-left 16384 212992 (omega arith) (omega arith) (omega (arith, h .long)) p)))
-    (subst (λ (T : List ℕ). Q (posOf L) (cellsOf L) T (oldsOf Y)) (sym (ap shorts (cut-left 212992 245760 (omega arith) (omega arith) (omega (arith, h .long)) p)))
-    (subst (λ (T : List ℕ). Q (posOf L) (cellsOf L) (varsOf L) T) (sym (ap triples (cut-left 245760 294912 (omega arith) (omega arith) (omega (arith, h .long)) p))) q)))
+    (subst (λ (T : List ℕ). Q (posOf L) (cellsOf L) T (oldsOf Y)) (sym (ap shorts (cut-left 212992 229376 (omega arith) (omega arith) (omega (arith, h .long)) p)))
+    (subst (λ (T : List ℕ). Q (posOf L) (cellsOf L) (varsOf L) T) (sym (ap triples (cut-left 229376 253952 (omega arith) (omega arith) (omega (arith, h .long)) p))) q)))
 
-pub logged-at : {L Y : List ℕ} (Q : List ℕ → List ℕ → List ℕ → List ℕ → Type 0) → Laid L → Outside 303104 376832 L Y → Q (posOf Y) (cellsOf Y) (varsOf Y) (oldsOf Y) → Q (posOf L) (cellsOf L) (varsOf L) (oldsOf L)
+pub logged-at : {L Y : List ℕ} (Q : List ℕ → List ℕ → List ℕ → List ℕ → Type 0) → Laid L → Outside 262144 335872 L Y → Q (posOf Y) (cellsOf Y) (varsOf Y) (oldsOf Y) → Q (posOf L) (cellsOf L) (varsOf L) (oldsOf L)
 unfolding posOf cellsOf varsOf oldsOf
 logged-at {L} {Y} Q h p q =
-    subst (λ (T : List ℕ). Q T (cellsOf L) (varsOf L) (oldsOf L)) (ap longs (cut-left 294912 303104 (omega arith) (omega arith) (omega (arith, h .long)) p))
+    subst (λ (T : List ℕ). Q T (cellsOf L) (varsOf L) (oldsOf L)) (ap longs (cut-left 253952 262144 (omega arith) (omega arith) (omega (arith, h .long)) p))
     (subst (λ (T : List ℕ). Q (posOf Y) T (varsOf L) (oldsOf L)) (ap triples (cut-left 16384 212992 (omega arith) (omega arith) (omega (arith, h .long)) p))
-    (subst (λ (T : List ℕ). Q (posOf Y) (cellsOf Y) T (oldsOf L)) (ap shorts (cut-left 212992 245760 (omega arith) (omega arith) (omega (arith, h .long)) p))
-    (subst (λ (T : List ℕ). Q (posOf Y) (cellsOf Y) (varsOf Y) T) (ap triples (cut-left 245760 294912 (omega arith) (omega arith) (omega (arith, h .long)) p)) q)))
+    (subst (λ (T : List ℕ). Q (posOf Y) (cellsOf Y) T (oldsOf L)) (ap shorts (cut-left 212992 229376 (omega arith) (omega arith) (omega (arith, h .long)) p))
+    (subst (λ (T : List ℕ). Q (posOf Y) (cellsOf Y) (varsOf Y) T) (ap triples (cut-left 229376 253952 (omega arith) (omega arith) (omega (arith, h .long)) p)) q)))
 
 pub can-push : (S : List Word) (L Y : List ℕ) (used n a from len : ℕ) → CanPush S L used n a from len → Appended S L used from len Y → CanTell (logOf (used + len + 3) Y) (posOf Y) (cellsOf Y) (varsOf Y) (oldsOf Y) n a used (used + len)
 can-push S L Y used n a from len h p =

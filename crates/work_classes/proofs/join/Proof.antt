@@ -22,40 +22,40 @@ same-length c = refl
 
 returns : tie.Need-returns
 returns c =
-    let s = c .before .before .before .before .before .before in
+    let s = c .before .before .before .before .before .before .before .before in
     let L = s .args .w .now in
-    record { joined = joined-same (cellsOf L) (varsOf L) (oldsOf L) (s .args .n) (s .args .x) (s .args .y) (c .before .before .before .find .result) (s .pre .1) (c .before .before .before .find .ensures) (subst (λ (r : ℕ). Found (cellsOf L) (s .args .y) r) (sym (c .if1 .taken)) (c .before .find2 .ensures)); rest = record { before = refl; after = refl; long = refl } }
+    record { joined = joined-same (cellsOf L) (varsOf L) (oldsOf L) (s .args .n) (s .args .x .0) (s .args .y .0) (c .before .before .before .before .before .find .result .0) (s .pre .1) (c .before .before .before .before .before .find .ensures) (subst (λ (r : ℕ). Found (cellsOf L) (s .args .y .0) r) (sym (c .if1 .taken)) (c .before .before .before .find2 .ensures)); rest = record { before = refl; after = refl; long = refl } }
 
 below-requires : tie.Need-below-requires
-below-requires c κs = (c .before .before .before .before .before .before .before .pre .0, record { ina = c .before .before .before .before .find .ensures .inside; inb = c .before .before .find2 .ensures .inside; size = omega (arith, c .before .before .before .before .before .before .before .pre .1 .up .size); apart = c .before .if1 .left })
+below-requires c κs = (c .before .before .before .before .before .before .before .before .before .pre .0, record { ina = c .before .before .before .before .before .before .find .ensures .inside; inb = c .before .before .before .before .find2 .ensures .inside; size = omega (arith, c .before .before .before .before .before .before .before .before .before .pre .1 .up .size); apart = c .before .if1 .left })
 
 hang-requires : tie.Need-hang-requires
 hang-requires c κs =
-    let h = c .before .before .before .before .before .before .before .before .before .before .pre .1 in
-    (c .before .before .before .before .before .before .before .before .before .before .pre .0, record { up = h .up; ina = c .before .before .before .before .before .before .before .find .ensures .inside; inb = c .before .before .before .before .before .find2 .ensures .inside; roota = c .before .before .before .before .before .before .before .find .ensures .root; rootb = c .before .before .before .before .before .find2 .ensures .root; less = subst (λ (r : Bool). Order (cellsOf (c .before .before .before .before .before .before .before .before .before .before .args .w .now)) (c .before .before .before .before .before .before .before .find .result) (c .before .before .before .before .before .find2 .result) r) (c .before .if2 .taken) (c .before .before .below .ensures); roomX = h .roomX; roomC = h .roomC })
+    let h = c .before .before .before .before .before .before .before .before .before .before .before .before .pre .1 in
+    (c .before .before .before .before .before .before .before .before .before .before .before .before .pre .0, record { up = h .up; ina = c .before .before .before .before .before .before .before .before .before .find .ensures .inside; inb = c .before .before .before .before .before .before .before .find2 .ensures .inside; roota = c .before .before .before .before .before .before .before .before .before .find .ensures .root; rootb = c .before .before .before .before .before .before .before .find2 .ensures .root; less = subst (λ (r : Bool). Order (cellsOf (c .before .before .before .before .before .before .before .before .before .before .before .before .args .w .now)) (c .before .before .before .before .before .before .before .before .before .find .result .0) (c .before .before .before .before .before .before .before .find2 .result .0) r) (c .before .if2 .taken) (c .before .before .below .ensures); roomX = h .roomX; roomC = h .roomC })
 
 same-length-2 : tie.Need-same-length-2
 same-length-2 c = c .before .before .hang .kept .0
 
 returns-2 : tie.Need-returns-2
 returns-2 c =
-    let s = c .before .before .before .before .before .before .before .before .before .before .before .before .before in
+    let s = c .before .before .before .before .before .before .before .before .before .before .before .before .before .before .before in
     let L = s .args .w .now in
-    record { joined = joined-reps (cellsOf L) (varsOf L) (oldsOf L) (s .args .n) (s .args .x) (s .args .y) (c .before .before .before .before .before .before .before .before .before .before .find .result) (c .before .before .before .before .before .before .before .before .find2 .result) _ _ _ (c .before .before .hang .result) (s .pre .1) (c .before .before .before .before .before .before .before .before .before .before .find .ensures) (c .before .before .before .before .before .before .before .before .find2 .ensures) (c .before .before .hang .ensures .joined); rest = c .before .before .hang .ensures .rest }
+    record { joined = joined-reps (cellsOf L) (varsOf L) (oldsOf L) (s .args .n) (s .args .x .0) (s .args .y .0) (c .before .before .before .before .before .before .before .before .before .before .before .before .find .result .0) (c .before .before .before .before .before .before .before .before .before .before .find2 .result .0) _ _ _ (c .before .before .hang .result) (s .pre .1) (c .before .before .before .before .before .before .before .before .before .before .before .before .find .ensures) (c .before .before .before .before .before .before .before .before .before .before .find2 .ensures) (c .before .before .hang .ensures .joined); rest = c .before .before .hang .ensures .rest }
 
 hang-requires-2 : tie.Need-hang-requires-2
 hang-requires-2 c κs =
-    let h = c .before .before .before .before .before .before .before .before .before .before .pre .1 in
-    (c .before .before .before .before .before .before .before .before .before .before .pre .0, record { up = h .up; ina = c .before .before .before .before .before .find2 .ensures .inside; inb = c .before .before .before .before .before .before .before .find .ensures .inside; roota = c .before .before .before .before .before .find2 .ensures .root; rootb = c .before .before .before .before .before .before .before .find .ensures .root; less = subst (λ (r : Bool). Order (cellsOf (c .before .before .before .before .before .before .before .before .before .before .args .w .now)) (c .before .before .before .before .before .before .before .find .result) (c .before .before .before .before .before .find2 .result) r) (c .before .if2 .left) (c .before .before .below .ensures); roomX = h .roomX; roomC = h .roomC })
+    let h = c .before .before .before .before .before .before .before .before .before .before .before .before .pre .1 in
+    (c .before .before .before .before .before .before .before .before .before .before .before .before .pre .0, record { up = h .up; ina = c .before .before .before .before .before .before .before .find2 .ensures .inside; inb = c .before .before .before .before .before .before .before .before .before .find .ensures .inside; roota = c .before .before .before .before .before .before .before .find2 .ensures .root; rootb = c .before .before .before .before .before .before .before .before .before .find .ensures .root; less = subst (λ (r : Bool). Order (cellsOf (c .before .before .before .before .before .before .before .before .before .before .before .before .args .w .now)) (c .before .before .before .before .before .before .before .before .before .find .result .0) (c .before .before .before .before .before .before .before .find2 .result .0) r) (c .before .if2 .left) (c .before .before .below .ensures); roomX = h .roomX; roomC = h .roomC })
 
 same-length-3 : tie.Need-same-length-3
 same-length-3 c = c .before .before .hang2 .kept .0
 
 returns-3 : tie.Need-returns-3
 returns-3 c =
-    let s = c .before .before .before .before .before .before .before .before .before .before .before .before .before in
+    let s = c .before .before .before .before .before .before .before .before .before .before .before .before .before .before .before in
     let L = s .args .w .now in
-    record { joined = joined-reps (cellsOf L) (varsOf L) (oldsOf L) (s .args .n) (s .args .x) (s .args .y) (c .before .before .before .before .before .before .before .before .before .before .find .result) (c .before .before .before .before .before .before .before .before .find2 .result) _ _ _ (c .before .before .hang2 .result) (s .pre .1) (c .before .before .before .before .before .before .before .before .before .before .find .ensures) (c .before .before .before .before .before .before .before .before .find2 .ensures) (joined-sym (c .before .before .hang2 .ensures .joined)); rest = c .before .before .hang2 .ensures .rest }
+    record { joined = joined-reps (cellsOf L) (varsOf L) (oldsOf L) (s .args .n) (s .args .x .0) (s .args .y .0) (c .before .before .before .before .before .before .before .before .before .before .before .before .find .result .0) (c .before .before .before .before .before .before .before .before .before .before .find2 .result .0) _ _ _ (c .before .before .hang2 .result) (s .pre .1) (c .before .before .before .before .before .before .before .before .before .before .before .before .find .ensures) (c .before .before .before .before .before .before .before .before .before .before .find2 .ensures) (joined-sym (c .before .before .hang2 .ensures .joined)); rest = c .before .before .hang2 .ensures .rest }
 
 pub join-spec : {M : Type 1} → statement M
 join-spec = tie.close (tie.spec find-requires find-requires-2 same-length returns below-requires hang-requires same-length-2 returns-2 hang-requires-2 same-length-3 returns-3)

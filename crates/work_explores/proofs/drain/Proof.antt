@@ -12,7 +12,7 @@ use Rattle.solve_explores.specs.declared.Child.the-variants.{Last, Open}
 use Rattle.solve_explores.proofs.Searching.{pushed}
 use Rattle.solve_explores.proofs.Finding.{advanced, popped, cycle, left-push, left-pop, left-next, marked-same, marked-store, drained-done, stack-room, settled-open, settled-done, leads-app}
 use Rattle.work_tables.specs.Writes.{mark-mates, done-mates}
-use Rattle.solve_meets.proofs.Meeting.{var-inside}
+use Rattle.solve_tells.proofs.Meeting.{var-inside}
 use borrow.Author.Needs.{needs}
 use Rattle.work_explores.proofs.drain.Statement.{statement}
 use Rattle.work_explores.proofs.drain.Tie as tie

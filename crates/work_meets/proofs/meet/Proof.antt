@@ -1,4 +1,4 @@
--- The laws are those of `solve_meets`, at the tables of the slice. Assumes nothing.
+-- The laws are those of `solve_tells`, at the tables of the slice. Assumes nothing.
 use mathlib.Core.Path.{_≡_, refl, sym, ap, _∙_, subst}
 use mathlib.Core.Bool.{Bool, true, false}
 use Prim.Native.Nat.{_+_, _-_}
@@ -9,9 +9,9 @@ use Rattle.mem_numbers.specs.Decides.{decided-yes, decided-no}
 use Rattle.mem_parts.specs.Parts.{outside-then}
 use Rattle.work_tables.specs.Tables.{cellsOf, varsOf, oldsOf, logOf, Laid, laid-after, Moved, same-moved, peek-moved}
 use Rattle.solve_fields.specs.Read.{varOf, isVar}
-use Rattle.solve_trails.specs.Steps.{Room}
-use Rattle.solve_trails.proofs.Trails.{step-none, filled-then}
-use Rattle.solve_meets.proofs.Meeting.{Meets, meets-first, meets-next, meets-done, clash-label, clash-left, clash-right, can-join, var-inside, label-is}
+use Rattle.solve_tells.specs.Steps.{Room}
+use Rattle.solve_tells.proofs.Trails.{step-none, filled-then}
+use Rattle.solve_tells.proofs.Meeting.{Meets, meets-first, meets-next, meets-done, clash-label, clash-left, clash-right, can-join, var-inside, label-is}
 use borrow.Author.Needs.{needs}
 use Rattle.work_meets.proofs.meet.Statement.{statement}
 use Rattle.work_meets.proofs.meet.Tie as tie
@@ -113,7 +113,7 @@ var-of-requires-2 : tie.Need-var-of-requires-2 Inv-loop μ-loop
 var-of-requires-2 c κs = search needs
 
 join-requires : tie.Need-join-requires Inv-loop μ-loop
-join-requires c κs = let h = (subst (λ (r : Bool). Room (varsOf (c .before .before .before .before .before .before .before .before .before .before .before .before .before .before .loop .w)) (oldsOf (c .before .before .before .before .before .before .before .before .before .before .before .before .before .before .loop .w)) (c .before .before .before .before .before .before .before .before .before .before .before .before .before .before .loop .k) r) (not-false (c .before .before .before .before .roomy .result) (c .before .before .before .if5 .left)) (c .before .before .before .before .roomy .ensures)) in (c .before .before .before .before .before .before .before .before .before .before .before .before .before .before .loop .inv .0, can-join (logOf (c .before .before .before .before .before .before .before .before .before .before .before .before .before .before .before .before .before .before .before .before .before .before .before .before .args .used) (c .before .before .before .before .before .before .before .before .before .before .before .before .before .before .before .before .before .before .before .before .before .before .before .before .args .w .now)) (cellsOf (c .before .before .before .before .before .before .before .before .before .before .before .before .before .before .before .before .before .before .before .before .before .before .before .before .args .w .now)) (varsOf (c .before .before .before .before .before .before .before .before .before .before .before .before .before .before .before .before .before .before .before .before .before .before .before .before .args .w .now)) (oldsOf (c .before .before .before .before .before .before .before .before .before .before .before .before .before .before .before .before .before .before .before .before .before .before .before .before .args .w .now)) (c .before .before .before .before .before .before .before .before .before .before .before .before .before .before .before .before .before .before .before .before .before .before .before .before .args .n) (c .before .before .before .before .before .before .before .before .before .before .before .before .before .before .before .before .before .before .before .before .before .before .before .before .args .p) (c .before .before .before .before .before .before .before .before .before .before .before .before .before .before .before .before .before .before .before .before .before .before .before .before .args .q) (cellsOf (c .before .before .before .before .before .before .before .before .before .before .before .before .before .before .loop .w)) (varsOf (c .before .before .before .before .before .before .before .before .before .before .before .before .before .before .loop .w)) (oldsOf (c .before .before .before .before .before .before .before .before .before .before .before .before .before .before .loop .w)) (c .before .before .before .before .before .before .before .before .before .before .before .before .before .before .loop .k) (c .before .before .before .before .before .before .before .before .before .before .before .before .before .before .loop .i) _ _ (c .before .before .before .before .before .before .before .before .before .before .before .before .before .before .before .before .before .before .before .before .before .before .before .before .args .p + 3 + c .before .before .before .before .before .before .before .before .before .before .before .before .before .before .loop .i) (c .before .before .before .before .before .before .before .before .before .before .before .before .before .before .before .before .before .before .before .before .before .before .before .before .args .q + 3 + c .before .before .before .before .before .before .before .before .before .before .before .before .before .before .loop .i) (c .before .before .before .before .before .before .before .before .before .before .before .before .before .before .before .before .before .before .before .before .before .before .before .before .pre .2) (c .before .before .before .before .before .before .before .before .before .before .before .before .before .before .loop .inv .2) (c .before .var-of .ensures ∙ ap varOf (peek-moved (c .before .before .before .before .before .before .before .before .before .before .before .before .before .before .before .before .before .before .before .before .before .before .before .before .args .used) (c .before .before .before .before .before .before .before .before .before .before .before .before .before .before .loop .inv .1) (c .before .before .before .before .before .before .before .before .before .before .before .before .peek3 .ensures))) (c .var-of2 .ensures ∙ ap varOf (peek-moved (c .before .before .before .before .before .before .before .before .before .before .before .before .before .before .before .before .before .before .before .before .before .before .before .before .args .used) (c .before .before .before .before .before .before .before .before .before .before .before .before .before .before .loop .inv .1) (c .before .before .before .before .before .before .before .before .before .before .peek4 .ensures))) (h .0) (h .1))
+join-requires c κs = let h = (subst (λ (r : Bool). Room (varsOf (c .before .before .before .before .before .before .before .before .before .before .before .before .before .before .loop .w)) (oldsOf (c .before .before .before .before .before .before .before .before .before .before .before .before .before .before .loop .w)) (c .before .before .before .before .before .before .before .before .before .before .before .before .before .before .loop .k) r) (not-false (c .before .before .before .before .roomy .result) (c .before .before .before .if5 .left)) (c .before .before .before .before .roomy .ensures)) in (c .before .before .before .before .before .before .before .before .before .before .before .before .before .before .loop .inv .0, can-join (logOf (c .before .before .before .before .before .before .before .before .before .before .before .before .before .before .before .before .before .before .before .before .before .before .before .before .args .used) (c .before .before .before .before .before .before .before .before .before .before .before .before .before .before .before .before .before .before .before .before .before .before .before .before .args .w .now)) (cellsOf (c .before .before .before .before .before .before .before .before .before .before .before .before .before .before .before .before .before .before .before .before .before .before .before .before .args .w .now)) (varsOf (c .before .before .before .before .before .before .before .before .before .before .before .before .before .before .before .before .before .before .before .before .before .before .before .before .args .w .now)) (oldsOf (c .before .before .before .before .before .before .before .before .before .before .before .before .before .before .before .before .before .before .before .before .before .before .before .before .args .w .now)) (c .before .before .before .before .before .before .before .before .before .before .before .before .before .before .before .before .before .before .before .before .before .before .before .before .args .n) (c .before .before .before .before .before .before .before .before .before .before .before .before .before .before .before .before .before .before .before .before .before .before .before .before .args .p) (c .before .before .before .before .before .before .before .before .before .before .before .before .before .before .before .before .before .before .before .before .before .before .before .before .args .q) (cellsOf (c .before .before .before .before .before .before .before .before .before .before .before .before .before .before .loop .w)) (varsOf (c .before .before .before .before .before .before .before .before .before .before .before .before .before .before .loop .w)) (oldsOf (c .before .before .before .before .before .before .before .before .before .before .before .before .before .before .loop .w)) (c .before .before .before .before .before .before .before .before .before .before .before .before .before .before .loop .k) (c .before .before .before .before .before .before .before .before .before .before .before .before .before .before .loop .i) _ _ (c .before .before .before .before .before .before .before .before .before .before .before .before .before .before .before .before .before .before .before .before .before .before .before .before .args .p + 3 + c .before .before .before .before .before .before .before .before .before .before .before .before .before .before .loop .i) (c .before .before .before .before .before .before .before .before .before .before .before .before .before .before .before .before .before .before .before .before .before .before .before .before .args .q + 3 + c .before .before .before .before .before .before .before .before .before .before .before .before .before .before .loop .i) (c .before .before .before .before .before .before .before .before .before .before .before .before .before .before .before .before .before .before .before .before .before .before .before .before .pre .2) (c .before .before .before .before .before .before .before .before .before .before .before .before .before .before .loop .inv .2) (c .before .before .var-of .ensures ∙ ap varOf (peek-moved (c .before .before .before .before .before .before .before .before .before .before .before .before .before .before .before .before .before .before .before .before .before .before .before .before .args .used) (c .before .before .before .before .before .before .before .before .before .before .before .before .before .before .loop .inv .1) (c .before .before .before .before .before .before .before .before .before .before .before .before .peek3 .ensures))) (c .before .var-of2 .ensures ∙ ap varOf (peek-moved (c .before .before .before .before .before .before .before .before .before .before .before .before .before .before .before .before .before .before .before .before .before .before .before .before .args .used) (c .before .before .before .before .before .before .before .before .before .before .before .before .before .before .loop .inv .1) (c .before .before .before .before .before .before .before .before .before .before .peek4 .ensures))) (h .0) (h .1))
 
 add-i : tie.Need-add-i Inv-loop μ-loop
 add-i c = omega (arith, (c .before .before .before .before .before .before .before .before .before .before .before .before .before .before .before .before .before .loop .inv .2) .low, c .before .before .before .before .before .before .before .before .before .before .before .before .before .before .before .before .before .before .before .before .before .before .before .before .before .before .before .pre .2 .sound .long)
@@ -122,7 +122,7 @@ loop-less : tie.Need-loop-less Inv-loop μ-loop
 loop-less c = let v = var-inside (logOf (c .before .before .before .before .before .before .before .before .before .before .before .before .before .before .before .before .before .before .before .before .before .before .before .before .before .before .before .args .used) (c .before .before .before .before .before .before .before .before .before .before .before .before .before .before .before .before .before .before .before .before .before .before .before .before .before .before .before .args .w .now)) (c .before .before .before .before .before .before .before .before .before .before .before .before .before .before .before .before .before .before .before .before .before .before .before .before .before .before .before .args .p + 3 + c .before .before .before .before .before .before .before .before .before .before .before .before .before .before .before .before .before .loop .i) (sym (ap isVar (peek-moved (c .before .before .before .before .before .before .before .before .before .before .before .before .before .before .before .before .before .before .before .before .before .before .before .before .before .before .before .args .used) (c .before .before .before .before .before .before .before .before .before .before .before .before .before .before .before .before .before .loop .inv .1) (c .before .before .before .before .before .before .before .before .before .before .before .before .before .before .before .peek3 .ensures))) ∙ sym (c .before .before .before .before .before .before .before .before .before .before .before .before .is-var .ensures) ∙ not-false (c .before .before .before .before .before .before .before .before .before .before .before .before .is-var .result) (c .before .before .before .before .before .before .before .before .before .before .before .if2 .left)) in omega (arith, (c .before .before .before .before .before .before .before .before .before .before .before .before .before .before .before .before .before .loop .inv .2) .low)
 
 loop-again : tie.Need-loop-again Inv-loop μ-loop
-loop-again c = let h = (subst (λ (r : Bool). Room (varsOf (c .before .before .before .before .before .before .before .before .before .before .before .before .before .before .before .before .before .loop .w)) (oldsOf (c .before .before .before .before .before .before .before .before .before .before .before .before .before .before .before .before .before .loop .w)) (c .before .before .before .before .before .before .before .before .before .before .before .before .before .before .before .before .before .loop .k) r) (not-false (c .before .before .before .before .before .before .before .roomy .result) (c .before .before .before .before .before .before .if5 .left)) (c .before .before .before .before .before .before .before .roomy .ensures)) in (laid-after (c .before .before .before .before .before .before .before .before .before .before .before .before .before .before .before .before .before .loop .inv .0) (c .before .before .join .ensures .rest), outside-then (c .before .before .before .before .before .before .before .before .before .before .before .before .before .before .before .before .before .loop .inv .1) (c .before .before .join .ensures .rest), meets-next (logOf (c .before .before .before .before .before .before .before .before .before .before .before .before .before .before .before .before .before .before .before .before .before .before .before .before .before .before .before .args .used) (c .before .before .before .before .before .before .before .before .before .before .before .before .before .before .before .before .before .before .before .before .before .before .before .before .before .before .before .args .w .now)) (cellsOf (c .before .before .before .before .before .before .before .before .before .before .before .before .before .before .before .before .before .before .before .before .before .before .before .before .before .before .before .args .w .now)) (varsOf (c .before .before .before .before .before .before .before .before .before .before .before .before .before .before .before .before .before .before .before .before .before .before .before .before .before .before .before .args .w .now)) (oldsOf (c .before .before .before .before .before .before .before .before .before .before .before .before .before .before .before .before .before .before .before .before .before .before .before .before .before .before .before .args .w .now)) (c .before .before .before .before .before .before .before .before .before .before .before .before .before .before .before .before .before .before .before .before .before .before .before .before .before .before .before .args .n) (c .before .before .before .before .before .before .before .before .before .before .before .before .before .before .before .before .before .before .before .before .before .before .before .before .before .before .before .args .p) (c .before .before .before .before .before .before .before .before .before .before .before .before .before .before .before .before .before .before .before .before .before .before .before .before .before .before .before .args .q) (cellsOf (c .before .before .before .before .before .before .before .before .before .before .before .before .before .before .before .before .before .loop .w)) (varsOf (c .before .before .before .before .before .before .before .before .before .before .before .before .before .before .before .before .before .loop .w)) (oldsOf (c .before .before .before .before .before .before .before .before .before .before .before .before .before .before .before .before .before .loop .w)) (c .before .before .before .before .before .before .before .before .before .before .before .before .before .before .before .before .before .loop .k) (c .before .before .before .before .before .before .before .before .before .before .before .before .before .before .before .before .before .loop .i) _ _ _ _ _ _ (c .before .before .before .before .before .before .before .before .before .before .before .before .before .before .before .before .before .loop .inv .2) (sym (ap isVar (peek-moved (c .before .before .before .before .before .before .before .before .before .before .before .before .before .before .before .before .before .before .before .before .before .before .before .before .before .before .before .args .used) (c .before .before .before .before .before .before .before .before .before .before .before .before .before .before .before .before .before .loop .inv .1) (c .before .before .before .before .before .before .before .before .before .before .before .before .before .before .before .peek3 .ensures))) ∙ sym (c .before .before .before .before .before .before .before .before .before .before .before .before .is-var .ensures) ∙ not-false (c .before .before .before .before .before .before .before .before .before .before .before .before .is-var .result) (c .before .before .before .before .before .before .before .before .before .before .before .if2 .left)) (sym (ap isVar (peek-moved (c .before .before .before .before .before .before .before .before .before .before .before .before .before .before .before .before .before .before .before .before .before .before .before .before .before .before .before .args .used) (c .before .before .before .before .before .before .before .before .before .before .before .before .before .before .before .before .before .loop .inv .1) (c .before .before .before .before .before .before .before .before .before .before .before .before .before .peek4 .ensures))) ∙ sym (c .before .before .before .before .before .before .before .before .before .before .is-var3 .ensures) ∙ not-false (c .before .before .before .before .before .before .before .before .before .before .is-var3 .result) (c .before .before .before .before .before .before .before .before .before .if4 .left)) (c .before .before .before .before .var-of .ensures ∙ ap varOf (peek-moved (c .before .before .before .before .before .before .before .before .before .before .before .before .before .before .before .before .before .before .before .before .before .before .before .before .before .before .before .args .used) (c .before .before .before .before .before .before .before .before .before .before .before .before .before .before .before .before .before .loop .inv .1) (c .before .before .before .before .before .before .before .before .before .before .before .before .before .before .before .peek3 .ensures))) (c .before .before .before .var-of2 .ensures ∙ ap varOf (peek-moved (c .before .before .before .before .before .before .before .before .before .before .before .before .before .before .before .before .before .before .before .before .before .before .before .before .before .before .before .args .used) (c .before .before .before .before .before .before .before .before .before .before .before .before .before .before .before .before .before .loop .inv .1) (c .before .before .before .before .before .before .before .before .before .before .before .before .before .peek4 .ensures))) (h .0) (h .1) (c .before .before .join .ensures .joined))
+loop-again c = let h = (subst (λ (r : Bool). Room (varsOf (c .before .before .before .before .before .before .before .before .before .before .before .before .before .before .before .before .before .loop .w)) (oldsOf (c .before .before .before .before .before .before .before .before .before .before .before .before .before .before .before .before .before .loop .w)) (c .before .before .before .before .before .before .before .before .before .before .before .before .before .before .before .before .before .loop .k) r) (not-false (c .before .before .before .before .before .before .before .roomy .result) (c .before .before .before .before .before .before .if5 .left)) (c .before .before .before .before .before .before .before .roomy .ensures)) in (laid-after (c .before .before .before .before .before .before .before .before .before .before .before .before .before .before .before .before .before .loop .inv .0) (c .before .before .join .ensures .rest), outside-then (c .before .before .before .before .before .before .before .before .before .before .before .before .before .before .before .before .before .loop .inv .1) (c .before .before .join .ensures .rest), meets-next (logOf (c .before .before .before .before .before .before .before .before .before .before .before .before .before .before .before .before .before .before .before .before .before .before .before .before .before .before .before .args .used) (c .before .before .before .before .before .before .before .before .before .before .before .before .before .before .before .before .before .before .before .before .before .before .before .before .before .before .before .args .w .now)) (cellsOf (c .before .before .before .before .before .before .before .before .before .before .before .before .before .before .before .before .before .before .before .before .before .before .before .before .before .before .before .args .w .now)) (varsOf (c .before .before .before .before .before .before .before .before .before .before .before .before .before .before .before .before .before .before .before .before .before .before .before .before .before .before .before .args .w .now)) (oldsOf (c .before .before .before .before .before .before .before .before .before .before .before .before .before .before .before .before .before .before .before .before .before .before .before .before .before .before .before .args .w .now)) (c .before .before .before .before .before .before .before .before .before .before .before .before .before .before .before .before .before .before .before .before .before .before .before .before .before .before .before .args .n) (c .before .before .before .before .before .before .before .before .before .before .before .before .before .before .before .before .before .before .before .before .before .before .before .before .before .before .before .args .p) (c .before .before .before .before .before .before .before .before .before .before .before .before .before .before .before .before .before .before .before .before .before .before .before .before .before .before .before .args .q) (cellsOf (c .before .before .before .before .before .before .before .before .before .before .before .before .before .before .before .before .before .loop .w)) (varsOf (c .before .before .before .before .before .before .before .before .before .before .before .before .before .before .before .before .before .loop .w)) (oldsOf (c .before .before .before .before .before .before .before .before .before .before .before .before .before .before .before .before .before .loop .w)) (c .before .before .before .before .before .before .before .before .before .before .before .before .before .before .before .before .before .loop .k) (c .before .before .before .before .before .before .before .before .before .before .before .before .before .before .before .before .before .loop .i) _ _ _ _ _ _ (c .before .before .before .before .before .before .before .before .before .before .before .before .before .before .before .before .before .loop .inv .2) (sym (ap isVar (peek-moved (c .before .before .before .before .before .before .before .before .before .before .before .before .before .before .before .before .before .before .before .before .before .before .before .before .before .before .before .args .used) (c .before .before .before .before .before .before .before .before .before .before .before .before .before .before .before .before .before .loop .inv .1) (c .before .before .before .before .before .before .before .before .before .before .before .before .before .before .before .peek3 .ensures))) ∙ sym (c .before .before .before .before .before .before .before .before .before .before .before .before .is-var .ensures) ∙ not-false (c .before .before .before .before .before .before .before .before .before .before .before .before .is-var .result) (c .before .before .before .before .before .before .before .before .before .before .before .if2 .left)) (sym (ap isVar (peek-moved (c .before .before .before .before .before .before .before .before .before .before .before .before .before .before .before .before .before .before .before .before .before .before .before .before .before .before .before .args .used) (c .before .before .before .before .before .before .before .before .before .before .before .before .before .before .before .before .before .loop .inv .1) (c .before .before .before .before .before .before .before .before .before .before .before .before .before .peek4 .ensures))) ∙ sym (c .before .before .before .before .before .before .before .before .before .before .is-var3 .ensures) ∙ not-false (c .before .before .before .before .before .before .before .before .before .before .is-var3 .result) (c .before .before .before .before .before .before .before .before .before .if4 .left)) (c .before .before .before .before .before .var-of .ensures ∙ ap varOf (peek-moved (c .before .before .before .before .before .before .before .before .before .before .before .before .before .before .before .before .before .before .before .before .before .before .before .before .before .before .before .args .used) (c .before .before .before .before .before .before .before .before .before .before .before .before .before .before .before .before .before .loop .inv .1) (c .before .before .before .before .before .before .before .before .before .before .before .before .before .before .before .peek3 .ensures))) (c .before .before .before .before .var-of2 .ensures ∙ ap varOf (peek-moved (c .before .before .before .before .before .before .before .before .before .before .before .before .before .before .before .before .before .before .before .before .before .before .before .before .before .before .before .args .used) (c .before .before .before .before .before .before .before .before .before .before .before .before .before .before .before .before .before .loop .inv .1) (c .before .before .before .before .before .before .before .before .before .before .before .before .before .peek4 .ensures))) (h .0) (h .1) (c .before .before .join .ensures .joined))
 
 pub meet-spec : {M : Type 1} → statement M
 meet-spec = tie.close (tie.spec Inv-loop μ-loop add-peek peek-requires num-of-requires add-peek-2 peek-requires-2 num-of-requires-2 same-label-requires same-length returns add-pa add-qa loop-holds add-peek-3 peek-requires-3 add-peek-4 peek-requires-4 is-var-requires is-var-requires-2 same-length-2 returns-2 same-length-3 returns-3 is-var-requires-3 same-length-4 returns-4 roomy-requires same-length-5 returns-5 var-of-requires var-of-requires-2 join-requires add-i loop-less loop-again)

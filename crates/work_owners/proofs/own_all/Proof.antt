@@ -1,4 +1,4 @@
--- The laws are those of `solve_owners`, at the tables of the slice. Assumes nothing.
+-- The laws are those of `solve_quiet`, at the tables of the slice. Assumes nothing.
 use mathlib.Core.Path.{_≡_, refl, ap, sym, _∙_, subst}
 use Prim.Native.Nat.{ℕ, _+_, _-_, _≤_}
 use native.Mathlib.Omega.{arith}
@@ -6,8 +6,8 @@ use lib.ListN.{length}
 use mathlib.Core.List.{List}
 use Rattle.mem_parts.specs.Parts.{outside-then}
 use Rattle.work_tables.specs.Tables.{cellsOf, varsOf, oldsOf, localsOf, Laid, laid-after, Moved, same-moved, moved-locals, length-var, length-old, length-locals}
-use Rattle.solve_owners.specs.Owners.{Owning, CanLookOne, CanOwn, Looking}
-use Rattle.solve_owners.proofs.Owning.{owning-first, can-look, can-own, went-apart, went-joint, went-full}
+use Rattle.solve_quiet.specs.Owners.{Owning, CanLookOne, CanOwn, Looking}
+use Rattle.solve_quiet.proofs.Owning.{owning-first, can-look, can-own, went-apart, went-joint, went-full}
 use borrow.Author.Needs.{needs}
 use Rattle.work_owners.proofs.own_all.Statement.{statement}
 use Rattle.work_owners.proofs.own_all.Tie as tie

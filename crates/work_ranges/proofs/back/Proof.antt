@@ -3,7 +3,7 @@ use mathlib.Core.Path.{refl}
 use mathlib.Core.Path.{_∙_}
 use lib.ListN.{length}
 use Rattle.work_tables.specs.Tables.{cellsOf, varsOf, oldsOf}
-use Rattle.solve_trails.proofs.Trails.{vars-of}
+use Rattle.solve_tells.proofs.Trails.{vars-of}
 use Rattle.solve_tells.proofs.Telling.{back-tables}
 use borrow.Author.Needs.{needs}
 use Rattle.work_ranges.proofs.back.Statement.{statement}

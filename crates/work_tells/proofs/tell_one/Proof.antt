@@ -11,10 +11,10 @@ use Rattle.constraint.specs.Tree.{Label}
 use Rattle.constraint.specs.Constraint.{Asg}
 use Rattle.constraint.proofs.FormSteps.{Holds}
 use Rattle.solve_fields.specs.Read.{varOf, tabOf}
-use Rattle.solve_takes.specs.Takes.{CanApply, Taking}
+use Rattle.solve_tells.specs.Takes.{CanApply, Taking}
 use Rattle.work_tables.specs.Writes.{peek-put, put-at, put-to}
 use Rattle.work_tells.specs.Positions.{before-none, before-put}
-use Rattle.solve_trails.specs.Reach.{var-in}
+use Rattle.solve_tells.specs.Reach.{var-in}
 use Rattle.solve_begins.specs.Begins.{beginsOf}
 use Rattle.solve_tells.specs.Tells.{oneAt, appsAt, Done, Clashed, Stopped}
 use Rattle.mem_numbers.specs.Stored.{stored-same, stored-other}

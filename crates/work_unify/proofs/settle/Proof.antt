@@ -1,5 +1,5 @@
--- The laws are those of `solve_unify`, at the tables of the slice. Assumes nothing.
-use Rattle.solve_trails.specs.Steps.{CanHold, Holding}
+-- The laws are those of `solve_tells`, at the tables of the slice. Assumes nothing.
+use Rattle.solve_tells.specs.Steps.{CanHold, Holding}
 use mathlib.Core.Path.{_≡_, refl, _∙_}
 use Prim.Native.Nat.{ℕ, _-_, _/_}
 use native.Mathlib.Omega.{arith}
@@ -8,7 +8,7 @@ use mathlib.Core.List.{List}
 use Rattle.mem_words.specs.declared.Word.{Word}
 use Rattle.mem_parts.specs.Parts.{outside-then}
 use Rattle.work_tables.specs.Tables.{cellsOf, varsOf, oldsOf, posOf, logOf, Laid, laid-after, Moved, same-moved, moved-at, moved-to, length-var, length-old, length-pos}
-use Rattle.solve_unify.proofs.Settling.{Settles, settles-first, settles-skip, can-hold, settles-done, went-on, went-clash, went-full}
+use Rattle.solve_tells.proofs.Settling.{Settles, settles-first, settles-skip, can-hold, settles-done, went-on, went-clash, went-full}
 use borrow.Author.Needs.{needs}
 use Rattle.work_unify.proofs.settle.Statement.{statement}
 use Rattle.work_unify.proofs.settle.Tie as tie

@@ -38,7 +38,7 @@ returns c =
           (logged-at (λ (P T Z C : List ℕ). Telling (logOf (s .args .used + s .args .len + 3) Y) P T Z C (s .args .n) (s .args .a) (appsIn (logOf (s .args .used + s .args .len + 3) Y) (s .args .used) (s .args .used + s .args .len)) (rangeOf (logOf (s .args .used + s .args .len + 3) Y) (s .args .used) (s .args .used + s .args .len)) (posOf X) (cellsOf X) (varsOf X) (oldsOf X) (c .before .before .tell .result)) (s .pre .room .laid) (c .before .before .before .before .before .before .append .ensures .rest) (c .before .before .tell .ensures .0));
       log = noted-log (s .args .used + s .args .len + 3) (c .before .before .tell .ensures .1) ∙ c .before .before .before .before .before .before .append .ensures .log;
       ahead = c .before .before .tell .ensures .2;
-      rest = outside-then (outside-wide 16384 376832 (omega arith) (omega arith) (c .before .before .before .before .before .before .append .ensures .rest)) (outside-wide 16384 376832 (omega arith) (omega arith) (c .before .before .tell .ensures .1));
+      rest = outside-then (outside-wide 16384 335872 (omega arith) (omega arith) (c .before .before .before .before .before .before .append .ensures .rest)) (outside-wide 16384 335872 (omega arith) (omega arith) (c .before .before .tell .ensures .1));
     }
 
 pub push-spec : {M : Type 1} → statement M

@@ -1,0 +1,1 @@
+// No code: laws on the labels of what is told.
