@@ -142,38 +142,38 @@ module _ (limit : ℕ) (low : limit ≤ 65536) (s : State) (F : Fits limit s) wh
   -- -------------------------------------------------------------------------------------------
   -- The regions.
 
-  abbrev b : List ℕ
+  abbrev pub b : List ℕ
   b = store-bytes limit s
 
-  abbrev r4 : List ℕ
+  abbrev pub r4 : List ℕ
   r4 = region (config-length limit) (bytes-of (config-words s)) []
 
-  abbrev r3 : List ℕ
+  abbrev pub r3 : List ℕ
   r3 = region variables-length (numbers-bytes (s .variables)) r4
 
-  abbrev r2 : List ℕ
+  abbrev pub r2 : List ℕ
   r2 = region program-length (bytes-of (rules-words s)) r3
 
-  abbrev r1 : List ℕ
+  abbrev pub r1 : List ℕ
   r1 = region names-length (numbers-bytes (table s)) r2
 
   header-long : length (numbers-bytes (header s)) ≡ header-length
   unfolding header header-length
   header-long = length-numbers-bytes (header s)
 
-  names-long : length (numbers-bytes (table s)) ≤ names-length
+  pub names-long : length (numbers-bytes (table s)) ≤ names-length
   unfolding names-length
   names-long = omega (arith, length-numbers-bytes (table s), F .nodes)
 
-  rules-long : length (bytes-of (rules-words s)) ≤ program-length
+  pub rules-long : length (bytes-of (rules-words s)) ≤ program-length
   unfolding program-length
   rules-long = omega (arith, length-bytes-of (rules-words s), F .rules)
 
-  variables-long : length (numbers-bytes (s .variables)) ≤ variables-length
+  pub variables-long : length (numbers-bytes (s .variables)) ≤ variables-length
   unfolding variables-length
   variables-long = omega (arith, length-numbers-bytes (s .variables), F .variables)
 
-  config-long : length (bytes-of (config-words s)) ≤ config-length limit
+  pub config-long : length (bytes-of (config-words s)) ≤ config-length limit
   unfolding config-length
   config-long = omega (arith, length-bytes-of (config-words s), F .words)
 
@@ -191,38 +191,38 @@ module _ (limit : ℕ) (low : limit ≤ 65536) (s : State) (F : Fits limit s) wh
         length-region (config-length limit) (bytes-of (config-words s)) [] config-long,
       )
 
-  header-read : triples (take header-length b) ≡ header s
+  pub header-read : triples (take header-length b) ≡ header s
   unfolding store-bytes
   header-read = ap triples (take-at (numbers-bytes (header s)) r1 header-length header-long) ∙ numbers-back (header s) header-triples
 
-  at-names : drop header-length b ≡ r1
+  pub at-names : drop header-length b ≡ r1
   unfolding store-bytes
   at-names = drop-at (numbers-bytes (header s)) r1 header-length header-long
 
-  at-program : drop program-start b ≡ r2
+  pub at-program : drop program-start b ≡ r2
   unfolding program-start
   at-program = next-region header-length names-length b (numbers-bytes (table s)) r2 at-names names-long
 
-  at-variables : drop variables-start b ≡ r3
+  pub at-variables : drop variables-start b ≡ r3
   unfolding variables-start
   at-variables = next-region program-start program-length b (bytes-of (rules-words s)) r3 at-program rules-long
 
-  at-config : drop config-start b ≡ r4
+  pub at-config : drop config-start b ≡ r4
   unfolding config-start
   at-config = next-region variables-start variables-length b (numbers-bytes (s .variables)) r4 at-variables variables-long
 
-  names-read : triples (piece header-length (suc (length (s .cells))) b) ≡ table s
+  pub names-read : triples (piece header-length (suc (length (s .cells))) b) ≡ table s
   names-read = ap triples (piece-region header-length (suc (length (s .cells))) names-length b (numbers-bytes (table s)) r2 at-names (length-numbers-bytes (table s))) ∙ numbers-back (table s) table-triples
 
-  rules-read : words (piece program-start (length (rules-words s)) b) ≡ rules-words s
+  pub rules-read : words (piece program-start (length (rules-words s)) b) ≡ rules-words s
   rules-read = ap words (piece-region program-start (length (rules-words s)) program-length b (bytes-of (rules-words s)) r3 at-program (length-bytes-of (rules-words s))) ∙ bytes-words (rules-words s) (small-all (rules-words s) (F .rules-small))
 
-  variables-read : triples (piece variables-start (length (s .variables)) b) ≡ s .variables
+  pub variables-read : triples (piece variables-start (length (s .variables)) b) ≡ s .variables
   variables-read =
       ap triples (piece-region variables-start (length (s .variables)) variables-length b (numbers-bytes (s .variables)) r4 at-variables (length-numbers-bytes (s .variables)))
       ∙ numbers-back (s .variables) (below-triples (suc (length (s .cells))) (s .variables) (F .known) (omega (arith, F .nodes, few-nodes)))
 
-  config-read : words (piece config-start (length (config-words s)) b) ≡ config-words s
+  pub config-read : words (piece config-start (length (config-words s)) b) ≡ config-words s
   config-read = ap words (piece-region config-start (length (config-words s)) (config-length limit) b (bytes-of (config-words s)) [] at-config (length-bytes-of (config-words s))) ∙ bytes-words (config-words s) (small-all (config-words s) (F .words-small))
 
   -- -------------------------------------------------------------------------------------------

@@ -58,7 +58,7 @@ map-same f g n (x ∷ l) h t =
     let a = and-T (below n x) (all (below n) l) .0 t in
     ap₂ (λ (y : Name) (r : List Name). y ∷ r) (h x (leb→le (suc x) n (a .0))) (map-same f g n l h (a .1))
 
-few-names : (xs : List Name) → T (names-pass xs) → size xs ≤ 16
+pub few-names : (xs : List Name) → T (names-pass xs) → size xs ≤ 16
 unfolding names-pass
 few-names xs t = leb→le (size xs) most-query-variables (and-T (leb (size xs) most-query-variables) (not (repeats xs)) .0 (and-T (leb (size xs) most-query-variables && not (repeats xs)) (all spelled-variable xs) .0 t .0) .0)
 
@@ -74,7 +74,7 @@ module _ (text query N : List ℕ) (R : List Word) (Q : List ℕ) (G : List Word
   num = number-in (table s)
 
   -- a node's name has its number
-  finds : (i : ℕ) → i < m → num (named N i) ≡ i
+  pub finds : (i : ℕ) → i < m → num (named N i) ≡ i
   finds i h =
       ap num (sym (names-same N m (left .root) (left .nodes) (left .parents) (left .apart) i h))
       ∙ number-named (table s) (names-apart N m (left .root) (left .nodes) (left .parents) (left .apart)) i (omega (arith, cells-count N m (left .root) (left .nodes) (left .parents) (left .apart)))

@@ -1,0 +1,1 @@
+// No code: what a store holds, said by texts.
