@@ -10,11 +10,11 @@ use std::fmt::Write;
 use std::time::Instant;
 
 /// What is measured: a configuration, and steps that are timed on copies of it.
-struct Case {
-    what: &'static str,
-    checker: Checker,
-    steps: Vec<Step>,
-    copies: usize,
+pub struct Case {
+    pub what: &'static str,
+    pub checker: Checker,
+    pub steps: Vec<Step>,
+    pub copies: usize,
 }
 
 /// A step of rule and place, the argument being 0.
@@ -99,6 +99,29 @@ fn quiet(parts: usize) -> Case {
     Case {
         what: "rules 2, 5, 1, 7, 6 in turn, quiet under a store of half the parts",
         checker: checker(rules, "s(X), p(X).", &before),
+        steps: round.repeat(10),
+        copies: 300,
+    }
+}
+
+/// Quiet tests inside guards that are nested in one another: rules 7, 6.
+fn quiet_deep(parts: usize) -> Case {
+    let levels = parts / 5 - 6;
+    let rules = "d(X) := (d(X), p(X) ? true).\n\
+                 p(X) := (Z : X = Z -> p(X) ; true -> true).\n";
+    let mut before = Vec::new();
+    for level in 0..levels {
+        let at = 2 + 3 * level;
+        before.extend([step(2, at), step(5, at), step(3, at + 3)]);
+    }
+    let at = 2 + 3 * levels + 1;
+    let round = [(2, 0), (5, 0), (1, 3), (7, 1), (6, 0)];
+    let round = round.map(|(rule, place)| step(rule, at + place));
+    // One round before: the stores on the way down have been told.
+    before.extend(round);
+    Case {
+        what: "rules 2, 5, 1, 7, 6 in turn, inside nested guards",
+        checker: checker(rules, "d(X).", &before),
         steps: round.repeat(10),
         copies: 300,
     }
@@ -235,20 +258,23 @@ fn whole_run() -> f64 {
     least
 }
 
+/// What is measured, each for configurations of about so many parts.
+pub const KINDS: [fn(usize) -> Case; 9] = [
+    storing,
+    looping,
+    quiet,
+    quiet_afresh,
+    quiet_deep,
+    splitting_inside,
+    stability_walk,
+    hard_walk,
+    splitting,
+];
+
 /// The table of all measurements, each the least of several rounds.
 pub fn report() -> String {
-    let kinds: [fn(usize) -> Case; 8] = [
-        storing,
-        looping,
-        quiet,
-        quiet_afresh,
-        splitting_inside,
-        stability_walk,
-        hard_walk,
-        splitting,
-    ];
     let sizes = [500, 1_000, 2_000];
-    let cases: Vec<Case> = kinds.iter().flat_map(|kind| sizes.map(kind)).collect();
+    let cases: Vec<Case> = KINDS.iter().flat_map(|kind| sizes.map(kind)).collect();
     let mut least = vec![f64::INFINITY; cases.len()];
     for _ in 0..4 {
         for (case, least) in cases.iter().zip(&mut least) {

@@ -124,6 +124,44 @@ impl<T: Copy> Pool<T> {
     }
 }
 
+/// Notes, of which the last few are kept.
+#[derive(Clone, Debug)]
+pub struct Notes<T> {
+    kept: Vec<T>,
+    /// How many were dropped before these.
+    dropped: u64,
+}
+
+/// As many notes as are kept before all are dropped.
+const NOTES: usize = 1 << 10;
+
+impl<T> Notes<T> {
+    pub fn new() -> Notes<T> {
+        Notes {
+            kept: Vec::new(),
+            dropped: 0,
+        }
+    }
+
+    pub fn note(&mut self, note: T) {
+        if self.kept.len() == NOTES {
+            self.dropped += NOTES as u64;
+            self.kept.clear();
+        }
+        self.kept.push(note);
+    }
+
+    /// How many notes there were.
+    pub fn count(&self) -> u64 {
+        self.dropped + self.kept.len() as u64
+    }
+
+    /// The notes after the first `seen`, if they are kept.
+    pub fn since(&self, seen: u64) -> Option<&[T]> {
+        Some(&self.kept[seen.checked_sub(self.dropped)? as usize..])
+    }
+}
+
 #[cfg(test)]
 mod tests {
     use super::*;

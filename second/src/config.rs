@@ -5,9 +5,9 @@
 //! child, left to right", and is patched by each step, so that a place is found
 //! at once and the places of a goal are one range.
 
-use crate::chain::{Chain, Pool};
+use crate::chain::{Chain, Notes, Pool};
 use crate::names::Name;
-use crate::syntax::{Code, Level, Operator, Query, Run, StatementId};
+use crate::syntax::{Code, Operator, Query, StatementId};
 
 /// A place: the number of a box, guarded goal or and-box member.
 #[derive(Clone, Copy, Debug, PartialEq, Eq, PartialOrd, Ord, Hash)]
@@ -30,7 +30,7 @@ pub struct AndId(pub(crate) u16);
 pub struct Closure {
     pub statement: StatementId,
     /// Where its frame begins in `Config::frames`.
-    frame: u32,
+    pub(crate) frame: u32,
 }
 
 /// What a goal is. A guarded goal's only child is its guard.
@@ -56,8 +56,8 @@ pub enum Constraint {
 /// The arguments of a constructor.
 #[derive(Clone, Copy, Debug, PartialEq, Eq)]
 pub struct Arguments {
-    length: u8,
-    list: [Variable; crate::limits::ARGUMENTS],
+    pub(crate) length: u8,
+    pub(crate) list: [Variable; crate::limits::ARGUMENTS],
 }
 
 impl Arguments {
@@ -114,12 +114,14 @@ pub struct Config {
     /// All goals in the order of their places.
     pub(crate) order: Vec<Goal>,
     /// The variables that levels stand for, frame after frame.
-    frames: Vec<Variable>,
+    pub(crate) frames: Vec<Variable>,
     /// The length of `frames` at which unused frames are dropped next, and the
     /// least such length.
-    frames_full: usize,
-    frames_least: usize,
+    pub(crate) frames_full: usize,
+    pub(crate) frames_least: usize,
     pub(crate) stamps: u64,
+    /// The and-boxes whose stores grew, one after another.
+    pub(crate) grown: Notes<AndId>,
     /// Scratch: the copy of each goal that was copied.
     pub(crate) copies: Vec<Goal>,
     /// Its parts.
@@ -135,7 +137,24 @@ impl Config {
     /// "The start is an or-box with one and-box, whose local variables are the
     /// query's and whose one member is the query."
     pub fn start(query: &Query) -> Config {
-        let mut config = Config {
+        let mut config = Config::empty(query.variables.len() as u32);
+        let top = config.new_goal(Shape::Or);
+        let id = config.new_and();
+        config.add_locals(id, 0..query.variables.len() as u16);
+        let and = config.new_goal(Shape::And(id));
+        let frame = (0..crate::limits::QUERY_VARIABLES as u16).map(Variable);
+        let closure = config.closure(query.statement, frame);
+        let member = config.new_goal(Shape::Member(closure));
+        config.append(top, and);
+        config.append(and, member);
+        config.order.extend([top, and, member]);
+        config.count_parts(&query.program.code);
+        config
+    }
+
+    /// No goals yet.
+    pub(crate) fn empty(next: u32) -> Config {
+        Config {
             nodes: Vec::new(),
             free_nodes: Vec::new(),
             ands: Vec::new(),
@@ -143,30 +162,19 @@ impl Config {
             locals: Pool::new(TIDY),
             constraints: Pool::new(TIDY),
             order: Vec::new(),
-            frames: (0..crate::limits::QUERY_VARIABLES as u16)
-                .map(Variable)
-                .collect(),
+            frames: Vec::new(),
             frames_full: TIDY,
             frames_least: TIDY,
             stamps: 0,
+            grown: Notes::new(),
             copies: Vec::new(),
             parts: 0,
-            next: query.variables.len() as u32,
-        };
-        let top = config.new_goal(Shape::Or);
-        let id = config.new_and();
-        config.add_locals(id, 0..query.variables.len() as u16);
-        let and = config.new_goal(Shape::And(id));
-        let member = config.new_goal(Shape::Member(Closure {
-            statement: query.statement,
-            frame: 0,
-        }));
-        config.append(top, and);
-        config.append(and, member);
-        config.order.extend([top, and, member]);
-        let code = &query.program.code;
-        config.parts = config.order.iter().map(|&g| config.weight(code, g)).sum();
-        config
+            next,
+        }
+    }
+
+    pub(crate) fn count_parts(&mut self, code: &Code) {
+        self.parts = self.order.iter().map(|&g| self.weight(code, g)).sum();
     }
 
     // Looking.
@@ -269,127 +277,6 @@ impl Config {
         let parent = self.nodes[usize::from(self.order[at].0)].parent;
         let before = self.order[..at].iter().rposition(|&goal| goal == parent);
         before.expect("parent before child")
-    }
-
-    // Statements and their variables.
-
-    /// The variable that a level stands for in a statement.
-    pub fn variable(&self, closure: Closure, level: Level) -> Variable {
-        self.frames[closure.frame as usize + usize::from(level.0)]
-    }
-
-    /// The arguments that levels stand for.
-    pub fn arguments(&self, code: &Code, closure: Closure, run: Run) -> Arguments {
-        let mut list = [Variable(0); crate::limits::ARGUMENTS];
-        let levels = &code.arguments[run.range()];
-        for (to, &level) in list.iter_mut().zip(levels) {
-            *to = self.variable(closure, level);
-        }
-        Arguments {
-            length: run.length as u8,
-            list,
-        }
-    }
-
-    /// A statement under the same variables.
-    pub fn same_frame(&self, closure: Closure, statement: StatementId) -> Closure {
-        let frame = closure.frame;
-        Closure { statement, frame }
-    }
-
-    /// A definition's body with arguments for parameters.
-    pub fn called(&mut self, arguments: Arguments, statement: StatementId) -> Closure {
-        let frame = self.frames.len() as u32;
-        self.frames.extend_from_slice(arguments.as_slice());
-        Closure { statement, frame }
-    }
-
-    /// The variables that `opened` will take for so many hidden ones.
-    pub fn fresh(&self, hidden: u16) -> std::ops::Range<u16> {
-        let first = self.next as u16;
-        first..first + hidden
-    }
-
-    /// Statement `inner` of `closure`, with `hidden` fresh variables for the
-    /// levels that are new in it. "Fresh variables take the next numbers never
-    /// used before, in order of their lists."
-    pub fn opened(
-        &mut self,
-        code: &Code,
-        closure: Closure,
-        hidden: u16,
-        inner: StatementId,
-    ) -> Closure {
-        if hidden == 0 {
-            return self.same_frame(closure, inner);
-        }
-        let start = closure.frame as usize;
-        let end = start + code.scope(closure.statement);
-        let frame = if end == self.frames.len() {
-            // The last frame can grow: others that begin there look no further.
-            closure.frame
-        } else {
-            let copy = self.frames.len() as u32;
-            self.frames.extend_from_within(start..end);
-            copy
-        };
-        let fresh = self.fresh(hidden);
-        self.frames.extend(fresh.map(Variable));
-        self.next += u32::from(hidden);
-        Closure {
-            statement: inner,
-            frame,
-        }
-    }
-
-    /// Lets what is unused be dropped as soon as there can be any.
-    pub fn tidy_often(&mut self) {
-        (self.frames_full, self.frames_least) = (0, 0);
-        self.locals.tidy_often();
-        self.constraints.tidy_often();
-    }
-
-    /// Drops frames, locals and constraints that no goal uses, once they have
-    /// piled up.
-    pub fn tidy(&mut self, code: &Code) {
-        if self.locals.is_full() {
-            self.locals
-                .tidy(self.ands.iter_mut().map(|and| &mut and.locals));
-        }
-        if self.constraints.is_full() {
-            self.constraints
-                .tidy(self.ands.iter_mut().map(|and| &mut and.store));
-        }
-        if self.frames.len() >= self.frames_full {
-            self.tidy_frames(code);
-        }
-    }
-
-    fn tidy_frames(&mut self, code: &Code) {
-        let mut used: Vec<(u32, usize, Goal)> = Vec::new();
-        for &goal in &self.order {
-            if let Shape::Guarded(closure) | Shape::Member(closure) = self.shape(goal) {
-                used.push((closure.frame, code.scope(closure.statement), goal));
-            }
-        }
-        // Frames that begin together stay together; the longest comes first.
-        used.sort_by_key(|&(frame, scope, _)| (frame, std::cmp::Reverse(scope)));
-        let old = std::mem::take(&mut self.frames);
-        let mut last = None;
-        let mut moved = 0;
-        for (frame, scope, goal) in used {
-            if last != Some(frame) {
-                last = Some(frame);
-                moved = self.frames.len() as u32;
-                let start = frame as usize;
-                self.frames.extend_from_slice(&old[start..start + scope]);
-            }
-            let node = &mut self.nodes[usize::from(goal.0)];
-            if let Shape::Guarded(closure) | Shape::Member(closure) = &mut node.shape {
-                closure.frame = moved;
-            }
-        }
-        self.frames_full = self.frames_least.max(2 * self.frames.len());
     }
 }
 

@@ -58,6 +58,7 @@ impl Config {
     pub(crate) fn add_constraint(&mut self, id: AndId, constraint: Constraint) {
         let and = &mut self.ands[usize::from(id.0)];
         self.constraints.append(&mut and.store, constraint);
+        self.grown.note(id);
     }
 
     /// Adds locals and store of an and-box to the ends of those of another.
@@ -66,6 +67,13 @@ impl Config {
         let and = &mut self.ands[usize::from(to.0)];
         self.locals.append_all(&mut and.locals, locals);
         self.constraints.append_all(&mut and.store, store);
+        self.grown.note(to);
+    }
+
+    /// Lets an and-box that stands elsewhere now count as another.
+    pub(crate) fn stamp_anew(&mut self, id: AndId) {
+        self.stamps += 1;
+        self.ands[usize::from(id.0)].stamp = self.stamps;
     }
 
     /// Gives back and-box contents.

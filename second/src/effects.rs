@@ -181,7 +181,8 @@ fn program_atom(program: &Program, config: &mut Config, goal: Goal) {
     let closure = member(config, goal);
     if let Statement::Call(definition, list) = program.code.statement(closure.statement) {
         let arguments = config.arguments(&program.code, closure, list);
-        let body = config.called(arguments, program.bodies[definition.0 as usize]);
+        let body = program.bodies[definition.0 as usize];
+        let body = config.closure(body, arguments.as_slice().iter().copied());
         config.set(goal, Shape::Member(body));
     }
 }
@@ -321,6 +322,8 @@ fn splitting(config: &mut Config, at: usize) {
         }
     }
     let first = config.order[at + 1];
+    let guard = config.guard(first);
+    config.stamp_anew(and_id(config, guard));
     config.unlink(first);
     config.append(config.copy_of(config.order[at]), first);
     config.append(either, second);

@@ -2,12 +2,13 @@
 //! verified reader: names numbered by the nodes of a trie, statements as words
 //! of three bytes, parents first.
 
+use crate::config::Variable;
+use crate::limits::QUERY_VARIABLES;
 use crate::names::Name;
 use crate::reader::{read_program, read_query};
 use crate::refusal::Refusal;
-use crate::syntax::{
-    Clause, Code, ConstraintAtom, Level, Operator, Program, Query, Run, Statement, StatementId,
-};
+use crate::syntax::Query;
+use crate::words::{arities, bytes, Writer};
 use std::collections::HashMap;
 
 /// What a program and a query come to.
@@ -56,27 +57,16 @@ impl Laid {
 
 fn lay(query: &Query) -> Laid {
     let program = &query.program;
-    let mut trie = Trie::default();
-    trie.number(b"true");
-    trie.number(b"fail");
-    // Spellings are counted by first occurrence, the query's after the program's.
-    let count = program.names.len() as u32;
-    let names: Vec<u32> = (0..count)
-        .map(|name| trie.number(program.names.spelling(Name(name))))
-        .collect();
+    let (trie, names) = Trie::of_query(query);
     let arities = arities(program);
-    let mut rules = Writer::new(program, &names, 0);
-    let mut heads = Vec::new();
-    for (id, &body) in program.bodies.iter().enumerate() {
-        let name = names[program.heads[id].0 as usize];
-        heads.push((name, arities[id]));
-        rules.word(NUM, name);
-        rules.word(NUM, arities[id] as u32);
-        rules.statement(body);
-    }
-    let mut goal = Writer::new(program, &names, crate::limits::QUERY_VARIABLES as u16);
-    goal.statement(query.statement);
-    let (rules, goal) = (rules.out, goal.out);
+    let heads = program.heads.iter().map(|head| names[head.0 as usize]);
+    let heads: Vec<_> = heads.zip(arities.iter().copied()).collect();
+    let mut rules = Writer::new(program, &names);
+    rules.definitions(&arities);
+    let free: Vec<_> = (0..QUERY_VARIABLES as u16).map(Variable).collect();
+    let mut goal = Writer::new(program, &names);
+    goal.statement(query.statement, &free);
+    let (rules, goal) = (bytes(&rules.out), bytes(&goal.out));
     let order: Vec<u32> = query
         .variables
         .iter()
@@ -98,24 +88,28 @@ fn lay(query: &Query) -> Laid {
     }
 }
 
-/// How many parameters each definition has.
-fn arities(program: &Program) -> Vec<usize> {
-    let mut arities = vec![0; program.heads.len()];
-    for (&(_, arity), id) in &program.defined {
-        arities[id.0 as usize] = arity;
-    }
-    arities
-}
-
 /// Names as nodes: each prefix that is met for the first time is the next one.
 #[derive(Default)]
-struct Trie {
+pub struct Trie {
     found: HashMap<(u32, u8), u32>,
-    nodes: Vec<(u32, u8)>,
+    pub nodes: Vec<(u32, u8)>,
 }
 
 impl Trie {
-    fn number(&mut self, name: &[u8]) -> u32 {
+    /// The names of a query and its program, and the number of each: `true` and
+    /// `fail`, then spellings by first occurrence, the query's after the
+    /// program's.
+    pub fn of_query(query: &Query) -> (Trie, Vec<u32>) {
+        let names = &query.program.names;
+        let mut trie = Trie::default();
+        trie.number(b"true");
+        trie.number(b"fail");
+        let number = |name| trie.number(names.spelling(Name(name)));
+        let numbers = (0..names.len() as u32).map(number).collect();
+        (trie, numbers)
+    }
+
+    pub fn number(&mut self, name: &[u8]) -> u32 {
         name.iter().fold(0, |parent, &byte| {
             let nodes = &mut self.nodes;
             *self.found.entry((parent, byte)).or_insert_with(|| {
@@ -123,139 +117,6 @@ impl Trie {
                 nodes.len() as u32
             })
         })
-    }
-}
-
-// The classes of words.
-const END: u8 = 0;
-const FREE: u8 = 1;
-const LEVEL: u8 = 2;
-const NUM: u8 = 3;
-const INNER: u8 = 5;
-
-// The values of words that open a bracket.
-const TRUE: u32 = 2;
-const FAIL: u32 = 3;
-const EQ: u32 = 4;
-const APP: u32 = 5;
-const CALL: u32 = 6;
-const COMP: u32 = 7;
-const HIDE: u32 = 8;
-const CLAUSE: u32 = 9;
-const ASK_WAIT: u32 = 10;
-const ASK_COND: u32 = 11;
-const ASK_COMMIT: u32 = 12;
-
-struct Writer<'a> {
-    program: &'a Program,
-    code: &'a Code,
-    /// The number of each spelling.
-    names: &'a [u32],
-    /// Levels below this one are the query's variables.
-    free: u16,
-    out: Vec<u8>,
-}
-
-impl<'a> Writer<'a> {
-    fn new(program: &'a Program, names: &'a [u32], free: u16) -> Writer<'a> {
-        Writer {
-            program,
-            code: &program.code,
-            names,
-            free,
-            out: Vec::new(),
-        }
-    }
-
-    fn word(&mut self, class: u8, value: u32) {
-        self.out.extend([class, value as u8, (value >> 8) as u8]);
-    }
-
-    fn end(&mut self) {
-        self.word(END, 0);
-    }
-
-    fn name(&mut self, name: Name) {
-        self.word(NUM, self.names[name.0 as usize]);
-    }
-
-    fn variable(&mut self, level: Level) {
-        if level.0 < self.free {
-            self.word(FREE, level.0.into());
-        } else {
-            self.word(LEVEL, (level.0 - self.free).into());
-        }
-    }
-
-    fn arguments(&mut self, list: Run) {
-        for &level in &self.code.arguments[list.range()] {
-            self.variable(level);
-        }
-    }
-
-    /// Calls itself from bracket to bracket, not along commas.
-    fn statement(&mut self, mut id: StatementId) {
-        let mut compositions = 0;
-        while let Statement::Composition(left, right) = self.code.statement(id) {
-            self.word(INNER, COMP);
-            self.statement(left);
-            compositions += 1;
-            id = right;
-        }
-        match self.code.statement(id) {
-            Statement::Composition(..) => unreachable!("none is left"),
-            Statement::Constraint(atom) => self.constraint(atom),
-            Statement::Call(definition, list) => {
-                self.word(INNER, CALL);
-                self.name(self.program.heads[definition.0 as usize]);
-                self.arguments(list);
-            }
-            Statement::Hiding(hidden, inner) => {
-                self.word(INNER, HIDE);
-                self.word(NUM, hidden.into());
-                self.statement(inner);
-            }
-            Statement::Choice(operator, clauses) => {
-                let ask = match operator {
-                    Operator::Wait => ASK_WAIT,
-                    Operator::Condition => ASK_COND,
-                    Operator::Commit => ASK_COMMIT,
-                };
-                self.word(INNER, ask);
-                for &clause in &self.code.clauses[clauses.range()] {
-                    self.clause(clause);
-                }
-            }
-        }
-        for _ in 0..=compositions {
-            self.end();
-        }
-    }
-
-    fn constraint(&mut self, atom: ConstraintAtom) {
-        match atom {
-            ConstraintAtom::True => self.word(INNER, TRUE),
-            ConstraintAtom::Fail => self.word(INNER, FAIL),
-            ConstraintAtom::Same(left, right) => {
-                self.word(INNER, EQ);
-                self.variable(left);
-                self.variable(right);
-            }
-            ConstraintAtom::Built(left, name, list) => {
-                self.word(INNER, APP);
-                self.variable(left);
-                self.name(name);
-                self.arguments(list);
-            }
-        }
-    }
-
-    fn clause(&mut self, clause: Clause) {
-        self.word(INNER, CLAUSE);
-        self.word(NUM, clause.hidden.into());
-        self.statement(clause.guard);
-        self.statement(clause.body);
-        self.end();
     }
 }
 

@@ -1,7 +1,7 @@
 //! The program `second`; see `README.md` for its commands.
 
 use second::fuzz::campaign::{campaign, one, Counts, Disagreement};
-use second::fuzz::make;
+use second::fuzz::{make, stores};
 use second::layout::printed;
 use second::record::{record, run, Texts};
 use std::io::Write;
@@ -9,7 +9,7 @@ use std::path::Path;
 use std::process::ExitCode;
 
 const USAGE: &str = "usage: second DIR | --sheet LISTFILE | --allowed DIR | --texts DIR | \
---random SEED COUNT | --random-one SEED | --make SEED OUTDIR | \
+--random SEED COUNT | --random-one SEED | --stores SEED COUNT | --make SEED OUTDIR | \
 --make-many SEED COUNT OUTDIR | --bench";
 
 fn main() -> ExitCode {
@@ -29,6 +29,10 @@ fn main() -> ExitCode {
         ["--random-one", seed] => match seed.parse() {
             Ok(seed) => random(|counts| one(seed, counts)),
             Err(_) => usage(),
+        },
+        ["--stores", seed, count] => match (seed.parse(), count.parse()) {
+            (Ok(seed), Ok(count)) => random_stores(seed, count),
+            _ => usage(),
         },
         ["--make", seed, folder] => match seed.parse() {
             Ok(seed) => make_case(seed, Path::new(folder)),
@@ -104,6 +108,24 @@ fn random(work: impl FnOnce(&mut Counts) -> Result<(), Box<Disagreement>>) -> Ex
             for text in [&found.texts.rules, &found.texts.query, &found.texts.steps] {
                 println!("----\n{}", String::from_utf8_lossy(text));
             }
+            ExitCode::FAILURE
+        }
+    }
+}
+
+/// Random stores; status 1 where a check fails or a clause never decides.
+fn random_stores(seed: u64, count: u64) -> ExitCode {
+    let mut counts = stores::Counts::default();
+    let result = stores::campaign(seed, count, &mut counts);
+    print!("{}", counts.text());
+    if let Err(what) = result {
+        println!("{what}");
+        return ExitCode::FAILURE;
+    }
+    match &counts.undecided()[..] {
+        [] => ExitCode::SUCCESS,
+        left => {
+            println!("never decided: {left:?}");
             ExitCode::FAILURE
         }
     }

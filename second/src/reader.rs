@@ -171,7 +171,7 @@ impl Resolver<'_> {
         let ids: Vec<_> = simples.range().map(|at| self.simple(at)).collect();
         let join = |right, left| {
             let both = Statement::Composition(left, right);
-            self.code.add(both, self.scope)
+            self.code.add(both, self.scope.into())
         };
         ids.into_iter().rev().reduce(join).expect("one or more")
     }
@@ -209,7 +209,7 @@ impl Resolver<'_> {
             }
             Simple::Choice(clauses) => self.choice(clauses),
         };
-        self.code.add(statement, self.scope)
+        self.code.add(statement, self.scope.into())
     }
 
     fn choice(&mut self, clauses: Run) -> Statement {

@@ -78,7 +78,7 @@ pub struct Clause {
 struct Entry {
     statement: Statement,
     /// How many levels are in scope.
-    scope: u16,
+    scope: u32,
     /// Its parts, as document 01 counts them.
     parts: u32,
 }
@@ -94,7 +94,7 @@ pub struct Code {
 impl Code {
     /// Adds a statement and counts its parts: "one for every .. clause,
     /// composition, hiding, choice statement, atom, .. and .. hidden variable".
-    pub fn add(&mut self, statement: Statement, scope: u16) -> StatementId {
+    pub fn add(&mut self, statement: Statement, scope: u32) -> StatementId {
         let parts = match statement {
             Statement::Constraint(_) | Statement::Call(..) => 1,
             Statement::Composition(a, b) => 1 + self.parts(a) + self.parts(b),
@@ -118,7 +118,7 @@ impl Code {
     }
 
     pub fn scope(&self, id: StatementId) -> usize {
-        usize::from(self.entries[id.0 as usize].scope)
+        self.entries[id.0 as usize].scope as usize
     }
 
     pub fn parts(&self, id: StatementId) -> u32 {

@@ -133,3 +133,25 @@ fn terms_of_any_depth_and_size() {
         }
     });
 }
+
+#[test]
+fn stores_around_grow_between_questions() {
+    let program = read_program(b"s(Y) := Y = c, s(Y).").expect("a program");
+    let query = b"((Y = c -> true ; true -> true) ? true), s(Y).";
+    for rounds in [1, 1_100] {
+        let query = read_query(&program, query).expect("a query");
+        let mut checker = Checker::start(query).expect("small");
+        let (inner, outer) = (step(5, 5, 0), step(5, 2, 0));
+        let before = [step(3, 2, 0), outer, inner, step(1, 8, 0)];
+        assert_eq!(checker.run(&before), (4, None));
+        // Y = c says something new, two boxes down.
+        let condition = step(7, 6, 0);
+        assert_eq!(checker.step(condition), Err(Refusal::Condition));
+        // It is stored in the outer box, once or so often that notes on what
+        // grew are dropped.
+        let round = [step(2, 11, 0), step(3, 11, 0), step(1, 11, 0)];
+        let (accepted, refusal) = checker.run(&round.repeat(rounds));
+        assert_eq!((accepted, refusal), (3 * rounds, None));
+        assert_eq!(checker.step(condition), Ok(()));
+    }
+}

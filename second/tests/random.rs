@@ -1,5 +1,8 @@
 //! A few seconds of random cases with fixed seeds.
 
+// Linking takes longer than these tests, so they share a program.
+mod stores;
+
 use second::fuzz::campaign::{campaign, Counts};
 use second::fuzz::make;
 use second::oracle::{chains, ground};

@@ -3,10 +3,13 @@
 
 pub mod chains;
 pub mod dump;
+pub mod formed;
 pub mod ground;
 pub mod logic;
 pub mod meaning;
 pub mod model;
 pub mod record;
 pub mod rewrite;
+mod stored;
 pub mod text;
+mod written;

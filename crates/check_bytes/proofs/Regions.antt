@@ -1,0 +1,78 @@
+-- The regions of a store by their numbers, and what is not used of them. Assumes nothing.
+use mathlib.Core.Path.{_≡_, sym, subst}
+use mathlib.Core.List.{List}
+use mathlib.Core.Bool.{Bool, true, false}
+use Prim.Native.Nat.{ℕ, _+_, _*_, _≤_}
+use native.Mathlib.Omega.{arith}
+use lib.ListN.{length}
+use Rattle.mem_numbers.specs.Decides.{Decides}
+use Rattle.store_form.specs.Sizes.{header-length, program-start, variables-start, config-start, config-length, store-length}
+use Rattle.store_form.proofs.Lengths.{starts}
+use Rattle.check_zeros.specs.Zeros.{Zeros}
+use Rattle.check_held.specs.Checks.{numbers-in, nodes-in, rules-in, variables-in, words-in, Counts, Unused}
+use Rattle.check_header.specs.Header.{Read, Headed, bounds}
+use Rattle.check_header.specs.declared.Header.{Header}
+use Rattle.check_header.specs.declared.Heading.{Heading}
+use Rattle.check_header.specs.declared.Heading.the-variants.{Counted, Wrong}
+use Rattle.check_bytes.specs.Bytes.{Laid}
+
+pub at-end : (limit : ℕ) → store-length limit ≡ 184413 + 42 * limit
+unfolding store-length config-length
+at-end limit = let e = starts .3 in omega arith
+
+-- the same range, by other words
+same-zeros : (b : List ℕ) (a e a′ e′ : ℕ) → a ≡ a′ → e ≡ e′ → Zeros b a e → Zeros b a′ e′
+same-zeros b a e a′ e′ p q z i h g = z i (omega arith) (omega arith)
+
+module _ (limit : ℕ) (b : List ℕ) (L : Laid limit b) (h : Header) (R : Read limit (numbers-in b) h) where
+  abbrev pub Names : Type 0
+  Names = Zeros b (18 + 3 * h .nodes) 61485
+
+  abbrev pub Rules : Type 0
+  Rules = Zeros b (61485 + 3 * h .rules) 184365
+
+  abbrev pub Variables : Type 0
+  Variables = Zeros b (184365 + 3 * h .variables) 184413
+
+  abbrev pub Words : Type 0
+  Words = Zeros b (184413 + 3 * h .words) (184413 + 42 * limit)
+
+  pub whole : 184413 + 42 * limit ≤ length b
+  whole = omega (arith, at-end limit, L .long)
+
+  pub few-nodes : h .nodes ≤ 20489
+  few-nodes = omega (arith, R .nodes, R .counts .nodes, bounds .0)
+
+  pub few-rules : h .rules ≤ 40960
+  few-rules = omega (arith, R .rules, R .counts .rules, bounds .1)
+
+  pub few-variables : h .variables ≤ 16
+  few-variables = omega (arith, R .variables, R .counts .variables)
+
+  pub few-words : h .words ≤ 14 * limit
+  few-words = omega (arith, R .words, R .counts .words)
+
+  pub no-names : (Names → ⊥) → Unused limit b → ⊥
+  no-names n u = n (same-zeros b (header-length + 3 * nodes-in b) program-start (18 + 3 * h .nodes) 61485 (omega (arith, R .nodes, starts .0)) (starts .1) (u .names))
+
+  pub no-rules : (Rules → ⊥) → Unused limit b → ⊥
+  no-rules n u = n (same-zeros b (program-start + 3 * rules-in b) variables-start (61485 + 3 * h .rules) 184365 (omega (arith, R .rules, starts .1)) (starts .2) (u .rules))
+
+  pub no-variables : (Variables → ⊥) → Unused limit b → ⊥
+  no-variables n u = n (same-zeros b (variables-start + 3 * variables-in b) config-start (184365 + 3 * h .variables) 184413 (omega (arith, R .variables, starts .2)) (starts .3) (u .variables))
+
+  pub all-unused : Names → Rules → Variables → (r : Bool) → Decides Words r → Decides (Unused limit b) r
+  all-unused n p v true w = record {
+    names = same-zeros b (18 + 3 * h .nodes) 61485 (header-length + 3 * nodes-in b) program-start (omega (arith, R .nodes, starts .0)) (sym (starts .1)) n;
+    rules = same-zeros b (61485 + 3 * h .rules) 184365 (program-start + 3 * rules-in b) variables-start (omega (arith, R .rules, starts .1)) (sym (starts .2)) p;
+    variables = same-zeros b (184365 + 3 * h .variables) 184413 (variables-start + 3 * variables-in b) config-start (omega (arith, R .variables, starts .2)) (sym (starts .3)) v;
+    words = same-zeros b (184413 + 3 * h .words) (184413 + 42 * limit) (config-start + 3 * words-in b) (store-length limit) (omega (arith, R .words, starts .3)) (sym (at-end limit)) w;
+  }
+  all-unused n p v false w = λ u. w (same-zeros b (config-start + 3 * words-in b) (store-length limit) (184413 + 3 * h .words) (184413 + 42 * limit) (omega (arith, R .words, starts .3)) (at-end limit) (u .words))
+
+-- the answers of reading a header, by their equations
+pub read-counted : (limit : ℕ) (l : List ℕ) (r : Heading) (h : Header) → r ≡ Counted h → Headed limit l r → Read limit l h
+read-counted limit l r h e d = subst (Headed limit l) e d
+
+pub read-wrong : (limit : ℕ) (l : List ℕ) (r : Heading) → r ≡ Wrong → Headed limit l r → Counts limit l → ⊥
+read-wrong limit l r e d = subst (Headed limit l) e d

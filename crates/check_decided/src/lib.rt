@@ -1,0 +1,1 @@
+// No code: refusal 9 put together from what code decides.

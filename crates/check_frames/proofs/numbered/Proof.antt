@@ -1,0 +1,24 @@
+-- The numbers are small. Assumes nothing.
+use mathlib.Core.Path.{refl}
+use native.Mathlib.Omega.{arith}
+use borrow.Author.Needs.{needs}
+use Rattle.check_frames.proofs.numbered.Statement.{statement}
+use Rattle.check_frames.proofs.numbered.Tie as tie
+
+mul-result : tie.Need-mul-result
+mul-result c = search needs
+
+add-result : tie.Need-add-result
+add-result c = search needs
+
+mul-result-2 : tie.Need-mul-result-2
+mul-result-2 c = search needs
+
+add-result-2 : tie.Need-add-result-2
+add-result-2 c = search needs
+
+returns : tie.Need-returns
+returns c = refl
+
+pub numbered-spec : {M : Type 1} → statement M
+numbered-spec = tie.close (tie.spec mul-result add-result mul-result-2 add-result-2 returns)

@@ -1,0 +1,5 @@
+pub mod Good
+pub mod Cut
+pub mod Held
+pub mod Back
+pub mod Below

@@ -1,0 +1,11 @@
+pub mod Rests
+pub mod Moves
+pub mod More
+pub mod Openings
+pub mod Sound
+pub mod Complete
+pub mod CompleteBoxes
+pub mod Heads
+pub mod NotBad
+pub mod Programs
+pub mod Configs

@@ -1,0 +1,5 @@
+pub mod Machine
+pub mod Passed
+pub mod Moving
+pub mod Bounds
+pub mod Low

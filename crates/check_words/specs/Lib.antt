@@ -1,0 +1,5 @@
+pub mod Frees
+pub mod Passes
+pub mod Query
+pub mod Apart
+pub mod Scope
