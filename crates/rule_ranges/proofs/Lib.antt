@@ -1,0 +1,17 @@
+pub mod Examples
+pub mod Around
+pub mod Inside
+pub mod Told
+pub mod Ranged
+pub mod Own
+pub mod Alike
+pub mod Environment
+pub mod Judged
+pub mod Locals
+pub mod Split
+pub mod Quieted
+pub mod Stable
+pub mod Room
+pub mod Listed
+pub mod AllQuiet
+pub mod Drawing

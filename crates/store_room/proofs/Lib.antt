@@ -1,0 +1,10 @@
+pub mod Freshness
+pub mod Labels
+pub mod Rooms
+pub mod Applications
+pub mod Boxes
+pub mod Drawing
+pub mod Given
+pub mod Placed
+pub mod Answered
+pub mod Bodies
