@@ -1,0 +1,3 @@
+pub mod Guards
+pub mod Rules
+pub mod Applies

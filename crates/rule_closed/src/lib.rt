@@ -1,0 +1,1 @@
+// No code: a law of constraints that have no bound variable left free.

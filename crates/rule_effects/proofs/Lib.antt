@@ -1,0 +1,11 @@
+pub mod Shapes
+pub mod Frames
+pub mod Members
+pub mod Guarded
+pub mod Splitting
+pub mod Opening
+pub mod Stores
+pub mod Choices
+pub mod Calls
+pub mod Conditions
+pub mod Pieces

@@ -1,0 +1,1 @@
+// No code: the effects of rules as edits of words, and laws.

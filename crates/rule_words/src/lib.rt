@@ -1,0 +1,1 @@
+// No code: brackets and pieces of lists of words, and laws.
