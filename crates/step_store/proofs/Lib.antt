@@ -1,0 +1,4 @@
+pub mod Whole
+pub mod Next
+pub mod Done
+pub mod Regions

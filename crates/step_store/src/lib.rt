@@ -1,0 +1,91 @@
+// A step on a store that holds a state: what it is refused with, or 0 and the store with the next configuration.
+ghost use Prim.Native.Nat.{_+_, _*_, _≤_};
+ghost use lib.ListN.{length};
+ghost use Rattle.mem_words.specs.Words.{words};
+ghost use Rattle.mem_parts.specs.Parts.{cut};
+ghost use Rattle.store_commit.specs.Settled.{CanSettle, Settled};
+ghost use Rattle.rule_build.specs.Built.{Built};
+ghost use Rattle.rule_hidden.specs.Counting.{Capped};
+ghost use Rattle.rule_rewrite.specs.Rewriting.{effect-words, fresh-words};
+ghost use Rattle.work_tables.specs.Tables.{Laid};
+ghost use Rattle.step_meant.specs.Deciding.{step-of, StepDone, HoldsState};
+ghost use Rattle.step_decide.specs.Decided.{Decided};
+ghost use Rattle.step_store.specs.Regions.{config-part, program-part, Counts, CanRewrite, WasBuilt};
+use read_steps::Place;
+use step_decide::Decision;
+
+// What is decided of the step, on the regions of the store.
+fn decision(b: &[u8], w: &mut [u8], n: usize, m: usize, r: usize, p: Place, a: usize) -> Decision
+    requires { ⌜ Laid (now w) × Counts (now b) n m ⌝ }
+    ensures { λ x. ⌜ Decided (config-part (now (b .entry)) n) (program-part (now (b .entry)) m) (step-of r (p .0) a) x × Laid (now (w .exit)) ⌝ }
+{
+    let e = 184413 + 3 * n;
+    let f = 61485 + 3 * m;
+    step_decide::decide(&b[184413..e], &b[61485..f], w, r, p, a)
+}
+
+// How many fresh variables the rule takes at `i`, or more than 65,536.
+fn fresh(b: &[u8], n: usize, r: usize, i: usize) -> usize
+    requires { ⌜ (184413 + 3 * n ≤ 270429) × (270429 ≤ length (now b)) × (i ≤ length (config-part (now b) n)) ⌝ }
+    ensures { λ f. ⌜ Capped (fresh-words (config-part (now (b .entry)) n) r i) f ⌝ }
+{
+    let e = 184413 + 3 * n;
+    rule_rewrite::fresh_for(&b[184413..e], r, i)
+}
+
+// The rule's effect, written to the part of `w` from `lo` on up to `hi`. The bounds are parameters and no constants: no large numeral
+// then stands under what is put back.
+fn rewrite_in(
+    t: &[u8],
+    d: &[u8],
+    r: usize,
+    i: usize,
+    next: usize,
+    w: &mut [u8],
+    lo: usize,
+    hi: usize,
+) -> usize
+    requires { ⌜ CanRewrite (words (now t)) r i next × (lo ≤ hi) × (hi ≤ length (now w)) ⌝ }
+    ensures { λ x. ⌜ Built (length (words (cut lo hi (now (w .entry))))) (effect-words (words (now (t .entry))) (words (now (d .entry))) r i next) x (words (cut lo hi (now (w .exit)))) ⌝ }
+{
+    rule_rewrite::rewrite(t, d, r, i, next, &mut w[lo..hi])
+}
+
+// Builds the next configuration in the working slice.
+fn build(b: &[u8], w: &mut [u8], n: usize, m: usize, next: usize, r: usize, i: usize) -> usize
+    requires { ⌜ Laid (now w) × Counts (now b) n m × CanRewrite (config-part (now b) n) r i next ⌝ }
+    ensures { λ x. ⌜ WasBuilt (now (b .entry)) n m next r i x (now (w .exit)) × Laid (now (w .exit)) ⌝ }
+{
+    let e = 184413 + 3 * n;
+    let f = 61485 + 3 * m;
+    rewrite_in(&b[184413..e], &b[61485..f], r, i, next, w, 401408, 487424)
+}
+
+// Settles the `x` words that were built in the part of `w` from `lo` on up to `hi`.
+fn settle_from(b: &mut [u8], w: &[u8], lo: usize, hi: usize, x: usize, next: usize) -> usize
+    requires { ⌜ CanSettle (now b) (cut lo hi (now w)) × (lo ≤ hi) × (hi ≤ length (now w)) ⌝ }
+    ensures { λ y. ⌜ Settled (now (b .entry)) (cut lo hi (now (w .entry))) x next (now (b .exit)) y ⌝ }
+{
+    store_commit::settle(b, &w[lo..hi], x, next)
+}
+
+// Rule `r` at the place `p` with the argument `a`. Answers the refusal, 10 to 15; or 0, and `b` is the store after the step.
+pub fn step(b: &mut [u8], w: &mut [u8], r: usize, p: Place, a: usize) -> usize
+    requires { ⌜ (270429 ≤ length (now b)) × Laid (now w) × HoldsState (now b) ⌝ }
+    ensures { λ x. ⌜ StepDone (now (b .entry)) (step-of r (p .0) a) x (now (b .exit)) × Laid (now (w .exit)) ⌝ }
+{
+    let n = store_views::config_count(b);
+    let m = store_views::program_count(b);
+    let next = store_views::next_number(b);
+    match decision(b, w, n, m, r, p, a) {
+        Decision::No(x) => x,
+        Decision::At(i) => {
+            let f = fresh(b, n, r, i);
+            if 65535 - next < f {
+                return 14; // too few numbers are left
+            }
+            let x = build(b, w, n, m, next, r, i);
+            settle_from(b, w, 401408, 487424, x, next + f)
+        }
+    }
+}

@@ -1,0 +1,4 @@
+pub mod Placing
+pub mod Rows
+pub mod Rounds
+pub mod Resting

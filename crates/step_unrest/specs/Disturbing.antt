@@ -1,0 +1,33 @@
+-- A place at or inside a goal, by positions; whether a rule that is determinate rewrites the goal or something inside it when it is
+-- applied there. Each is said of every state that the words mean. Assumes nothing.
+use mathlib.Core.Path.{_≡_}
+use mathlib.Core.Bool.{Bool}
+use mathlib.Core.List.{List}
+use Prim.Native.Nat.{ℕ, _<_, _≤_}
+use Rattle.akl.specs.Base.{any, range}
+use Rattle.akl.specs.Configuration.{Kind, Node, Ctx}
+use Rattle.akl.specs.Places.{Place, at}
+use Rattle.akl.specs.Stability.{disturbs}
+use Rattle.mem_words.specs.declared.Word.{Word}
+use Rattle.store_form.specs.State.{State, program-of, config-of}
+use Rattle.rule_effects.specs.Effects.{behind}
+use Rattle.step_meant.specs.Meant.{Meant, StandsAt}
+
+-- some state, a goal of its configuration at g and a place at or inside it at j are meant
+pub record CanPlace (W D : List Word) (g j : ℕ) : Type 0 where
+  pub state : State
+  pub goal : Place
+  pub place : Place
+  pub meant : Meant W D state
+  pub goal-stands : StandsAt state W goal g
+  pub stands : StandsAt state W place j
+  pub from : g ≤ j
+  pub to : j < behind W g
+
+-- does rule r, applied at j, disturb the goal at g?
+pub record DisturbsAt (W D : List Word) (g j r : ℕ) (b : Bool) : Type 0 where
+  pub right : (s : State) {k : Kind} (χ : Ctx k) (n : Node k) (pl : Place) → Meant W D s → StandsAt s W (at χ n) g → StandsAt s W pl j → b ≡ disturbs (program-of s) (config-of s) χ n r pl
+
+-- does any of the fourteen?
+pub record Disturbed (W D : List Word) (g j : ℕ) (b : Bool) : Type 0 where
+  pub right : (s : State) {k : Kind} (χ : Ctx k) (n : Node k) (pl : Place) → Meant W D s → StandsAt s W (at χ n) g → StandsAt s W pl j → b ≡ any (λ r. disturbs (program-of s) (config-of s) χ n r pl) (range 1 14)

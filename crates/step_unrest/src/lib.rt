@@ -1,0 +1,74 @@
+// What keeps a goal from being stable, at one place at or inside it: a determinate rule that rewrites the goal or something inside
+// it, or stores that are not quiet.
+ghost use mathlib.Core.Path.{_≡_};
+ghost use Prim.Native.Nat.{_<_, _≤_};
+ghost use Rattle.mem_words.specs.Words.{words};
+ghost use Rattle.work_tables.specs.Tables.{Laid};
+ghost use Rattle.rule_effects.specs.Effects.{behind};
+ghost use Rattle.rule_kinds.specs.Kinds.{takes-in};
+ghost use Rattle.step_meant.specs.Asked.{Unrest, CanAsk};
+ghost use Rattle.step_unrest.specs.Disturbing.{CanPlace, DisturbsAt, Disturbed};
+use rule_table::Mode;
+use rule_table::Row;
+
+// Whether the rule of number `r` is determinate, takes what is at `j`, a place of the kind `k`, rewrites the goal at `g` or something
+// inside it, and applies.
+fn disturbed_by(t: &[u8], d: &[u8], w: &mut [u8], g: usize, j: usize, k: usize, r: usize) -> bool
+    requires { ⌜ Laid (now w) × CanPlace (words (now t)) (words (now d)) g j × (k ≡ takes-in (words (now t)) j) ⌝ }
+    ensures { λ b. ⌜ DisturbsAt (words (now (t .entry))) (words (now (d .entry))) g j r b × Laid (now (w .exit)) ⌝ }
+{
+    let row = rule_table::row_of(r);
+    match row {
+        Row::Absent => false,
+        Row::Rule(takes, mode, what) => match mode {
+            Mode::Nondeterminate => false,
+            Mode::Determinate => {
+                let n = rule_table::takes_no(takes);
+                if n != k {
+                    return false; // another kind of place
+                }
+                if rule_holds::rewrites(t, g, j, what) {
+                    return step_applies::applies(t, d, w, r, j);
+                }
+                false
+            }
+        },
+    }
+}
+
+// Whether one of the fourteen rules does.
+fn disturbed(t: &[u8], d: &[u8], w: &mut [u8], g: usize, j: usize, k: usize) -> bool
+    requires { ⌜ Laid (now w) × CanPlace (words (now t)) (words (now d)) g j × (k ≡ takes-in (words (now t)) j) ⌝ }
+    ensures { λ b. ⌜ Disturbed (words (now (t .entry))) (words (now (d .entry))) g j b × Laid (now (w .exit)) ⌝ }
+{
+    let mut r = 1;
+    while r < 15 {
+        if disturbed_by(t, d, w, g, j, k, r) {
+            return true;
+        }
+        r += 1;
+    }
+    false
+}
+
+// Whether there is unrest at `j`, a position at or inside the goal at `g` of the configuration in `t`, whose program is in `d`. There
+// is none where no place begins.
+pub fn unrest_at(t: &[u8], d: &[u8], w: &mut [u8], g: usize, j: usize) -> bool
+    requires { ⌜ Laid (now w) × CanAsk (words (now t)) (words (now d)) g × (g ≤ j) × (j < behind (words (now t)) g) ⌝ }
+    ensures { λ b. ⌜ Unrest (words (now (t .entry))) (words (now (d .entry))) g j b × Laid (now (w .exit)) ⌝ }
+{
+    let k = rule_kinds::kind(t, j);
+    if k == 10 {
+        return false; // no place
+    }
+    if disturbed(t, d, w, g, j, k) {
+        return true; // a determinate rule
+    }
+    if k == 7 {
+        if rule_solve::quiet_at(t, w, g, j) {
+            return false; // quiet
+        }
+        return true; // not quiet
+    }
+    false
+}

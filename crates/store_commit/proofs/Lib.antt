@@ -1,0 +1,6 @@
+pub mod Lists
+pub mod States
+pub mod Words
+pub mod Parts
+pub mod Limits
+pub mod Settling

@@ -1,0 +1,3 @@
+pub mod Committed
+pub mod Settled
+pub mod Leaves
