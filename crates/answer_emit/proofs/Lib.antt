@@ -1,0 +1,5 @@
+pub mod Widening
+pub mod Backwards
+pub mod Spelling
+pub mod Ways
+pub mod Marks

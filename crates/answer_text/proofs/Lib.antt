@@ -1,0 +1,15 @@
+pub mod Values
+pub mod Absent
+pub mod Depth
+pub mod Chains
+pub mod Numbering
+pub mod Spelling
+pub mod Tabled
+pub mod First
+pub mod Walking
+pub mod Caps
+pub mod Lengths
+pub mod Sums
+pub mod Texts
+pub mod Decimals
+pub mod Outcome

@@ -1,0 +1,4 @@
+pub mod Tabled
+pub mod Chains
+pub mod Walks
+pub mod Lengths

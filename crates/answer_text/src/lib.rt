@@ -1,0 +1,1 @@
+// The text of an answer by the solver's tables: definitions and laws. No code.

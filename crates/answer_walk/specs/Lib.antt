@@ -1,0 +1,4 @@
+pub mod Walk
+pub mod Numbered
+pub mod Stack
+pub mod Line
