@@ -1,0 +1,5 @@
+pub mod Labels
+pub mod Telling
+pub mod Views
+pub mod Outcomes
+pub mod Lines

@@ -1,0 +1,5 @@
+pub mod Refusals
+pub mod Text
+pub mod Steps
+pub mod Answers
+pub mod Before
