@@ -1,1 +1,0 @@
-// No code: laws on the labels of what is told.
