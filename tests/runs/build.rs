@@ -1,10 +1,8 @@
-//! Links the calls that `rt staticlib` wrote.
+//! Links the library that `rt staticlib aklcheck` wrote.
 
 fn main() {
     let top = std::env::var("CARGO_MANIFEST_DIR").expect("set by cargo");
     println!("cargo:rustc-link-search=native={top}/../../target/staticlib");
-    for library in ["start_call", "call_step", "call_run", "call_answer", "call_state"] {
-        println!("cargo:rustc-link-lib=static={library}");
-        println!("cargo:rerun-if-changed={top}/../../target/staticlib/lib{library}.a");
-    }
+    println!("cargo:rustc-link-lib=static=aklcheck");
+    println!("cargo:rerun-if-changed={top}/../../target/staticlib/libaklcheck.a");
 }

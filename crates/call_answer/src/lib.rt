@@ -1,4 +1,4 @@
-// An answer of the configuration in a store, as functions that C can call.
+// An answer of the configuration in a store, on any slices.
 ghost use mathlib.Core.Path.{_≡_};
 ghost use Prim.Native.Nat.{_+_, _≤_};
 ghost use lib.ListN.{length};
@@ -89,8 +89,7 @@ fn asked(store: &[u8], work: &mut [u8], number: usize, out: &mut [u8]) -> usize
 // length, the text being at the beginning of `out`; or the refusal: 8 where a slice is too short, 9 where the store holds no well-formed
 // program and configuration, 16 where there is no such answer, 17 where its text is longer than `out`. A refused call leaves `out` as it
 // was, and so is what stands behind the text. The working slice is zero afterwards.
-#[no_mangle]
-pub extern "C" fn akl_answer(store: &[u8], work: &mut [u8], number: usize, out: &mut [u8]) -> usize
+pub fn akl_answer(store: &[u8], work: &mut [u8], number: usize, out: &mut [u8]) -> usize
     ensures { λ x. ⌜ AnswerCalled (now (store .entry)) (now (work .entry)) number (now (out .entry)) (now (work .exit)) (now (out .exit)) x ⌝ }
 {
     let x = asked(store, work, number, out);

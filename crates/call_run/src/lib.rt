@@ -1,4 +1,4 @@
-// A steps text on a store and a working slice, as a function that C can call.
+// A steps text on a store and a working slice, on any slices.
 ghost use lib.ListN.{length};
 ghost use Rattle.call_run.specs.Called.{CanRun, RunTo, RunCalled};
 use read_steps::Checked;
@@ -59,8 +59,7 @@ fn judged(steps: &[u8], store: &mut [u8], work: &mut [u8]) -> usize
 // accepted steps, and the refusal added, or 0: 1 and 18 of the whole text, then 8 where a slice is too short, then 9 where the store holds
 // no well-formed program and configuration, then 10 to 15 of the first step that is refused. The accepted steps stand in the store. The
 // working slice is zero afterwards.
-#[no_mangle]
-pub extern "C" fn akl_run(steps: &[u8], store: &mut [u8], work: &mut [u8]) -> usize
+pub fn akl_run(steps: &[u8], store: &mut [u8], work: &mut [u8]) -> usize
     ensures { λ x. ⌜ RunCalled (now (steps .entry)) (now (store .entry)) (now (work .entry)) (now (store .exit)) (now (work .exit)) x ⌝ }
 {
     let x = judged(steps, store, work);

@@ -1,4 +1,4 @@
-// The state of the configuration in a store, as a function that C can call.
+// The state of the configuration in a store, on any slices.
 ghost use lib.ListN.{length};
 ghost use Rattle.call_state.specs.Called.{StateTo, StateCalled};
 
@@ -23,8 +23,7 @@ fn asked(store: &[u8], work: &mut [u8]) -> usize
 
 // The state of the configuration that the store holds. Answers 256 times the state, 0 failed, 1 final, 2 open; or the refusal: 8 where a
 // slice is too short, 9 where the store holds no well-formed program and configuration. The working slice is zero afterwards.
-#[no_mangle]
-pub extern "C" fn akl_state(store: &[u8], work: &mut [u8]) -> usize
+pub fn akl_state(store: &[u8], work: &mut [u8]) -> usize
     ensures { λ x. ⌜ StateCalled (now (store .entry)) (now (work .entry)) (now (work .exit)) x ⌝ }
 {
     let x = asked(store, work);

@@ -1,4 +1,4 @@
-// A step on a store and a working slice, as a function that C can call.
+// A step on a store and a working slice, on any slices.
 ghost use lib.ListN.{length};
 ghost use Rattle.step_meant.specs.Deciding.{step-of};
 ghost use Rattle.call_step.specs.Called.{StepTo, StepCalled};
@@ -29,8 +29,7 @@ fn judged(
 // Does the step on the state that the store holds. Answers the refusal, or 0: 8 where a slice is too short, 9 where the store holds no
 // well-formed program and configuration, then 10 to 15 of the step. A refused step leaves the store as it was. The working slice is zero
 // afterwards.
-#[no_mangle]
-pub extern "C" fn akl_step(
+pub fn akl_step(
     store: &mut [u8],
     work: &mut [u8],
     rule: usize,

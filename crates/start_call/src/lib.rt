@@ -1,4 +1,4 @@
-// The start of a query: from a program text and a query text to a store, as a function that C can call.
+// The start of a query: from a program text and a query text to a store, on any slices.
 ghost use Rattle.start_outcome.specs.Outcome.{StartTo};
 ghost use Rattle.start_call.specs.Called.{StartCalled};
 
@@ -18,8 +18,7 @@ fn judged(program: &[u8], query: &[u8], store: &mut [u8], w: usize) -> usize
 
 // Reads the program and the query and writes the store of the query's start. Answers the refusal, or 0: 1 to 7 of the program, then of
 // the query, then 8, then 15. A refused start leaves the store as it was. The working slice is zero afterwards.
-#[no_mangle]
-pub extern "C" fn akl_start(
+pub fn akl_start(
     program: &[u8],
     query: &[u8],
     store: &mut [u8],

@@ -5,6 +5,7 @@
 //!     reader-tests stack                the stack that the deepest and largest texts take, at most 256 KiB
 //!     reader-tests deep                 these texts once, in the main thread
 
+mod command;
 mod limits;
 mod stack;
 mod texts;
@@ -19,33 +20,15 @@ use verified::{Tables, SHORT, TABLES};
 const STACK: usize = 256 * 1024;
 
 fn main() -> ExitCode {
-    let arguments: Vec<String> = std::env::args().skip(1).collect();
-    let arguments: Vec<&str> = arguments.iter().map(String::as_str).collect();
-    let result = match arguments[..] {
-        ["limits"] => all_limits(),
-        ["random", seed, count] => match (seed.parse(), count.parse()) {
-            (Ok(seed), Ok(count)) => random(seed, count),
-            _ => return usage(),
-        },
-        ["stack"] => stacks(),
-        ["deep"] => deep(),
-        _ => return usage(),
-    };
-    match result {
-        Ok(said) => {
-            print!("{said}");
-            ExitCode::SUCCESS
-        }
-        Err(said) => {
-            println!("{said}");
-            ExitCode::FAILURE
-        }
-    }
-}
-
-fn usage() -> ExitCode {
-    eprintln!("usage: reader-tests limits | random SEED COUNT | stack | deep");
-    ExitCode::from(2)
+    command::main("reader-tests limits | random SEED COUNT | stack | deep", |arguments| {
+        Some(match arguments {
+            ["limits"] => all_limits(),
+            ["random", seed, count] => random(seed.parse().ok()?, count.parse().ok()?),
+            ["stack"] => stacks(),
+            ["deep"] => deep(),
+            _ => return None,
+        })
+    })
 }
 
 /// Both readers on the same texts: the number that both hand back, or what differs.
@@ -124,7 +107,7 @@ fn all_limits() -> Result<String, String> {
         count += 1;
     }
     Ok(format!(
-        "{count} texts at the limits: both readers as due\n"
+        "{count} texts at the limits: both readers as due"
     ))
 }
 
@@ -144,9 +127,9 @@ fn random(seed: u64, count: usize) -> Result<String, String> {
             with_other_tables(&program, &query, byte).map_err(|e| format!("seed {seed}: {e}"))?;
         }
     }
-    let said = format!("{count} random texts, {bytes} bytes: both readers agree; read and refused by 1 to 7: {counts:?}\n");
+    let said = format!("{count} random texts, {bytes} bytes: both readers agree; read and refused by 1 to 7: {counts:?}");
     if counts.contains(&0) {
-        return Err(format!("{said}some answer never came"));
+        return Err(format!("{said}\nsome answer never came"));
     }
     Ok(said)
 }
@@ -177,7 +160,7 @@ fn stacks() -> Result<String, String> {
             return Err(format!("{}: {got} and not {}", case.what, case.due));
         }
     }
-    said += &format!("{most} bytes of stack at most, {STACK} allowed\n");
+    said += &format!("{most} bytes of stack at most, {STACK} allowed");
     Ok(said)
 }
 
@@ -191,5 +174,5 @@ fn deep() -> Result<String, String> {
             return Err(format!("{}: {got} and not {}", case.what, case.due));
         }
     }
-    Ok(format!("{} deep or large texts read\n", cases.len()))
+    Ok(format!("{} deep or large texts read", cases.len()))
 }

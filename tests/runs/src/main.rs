@@ -4,46 +4,31 @@
 //!     runs-tests cases FOLDER..      case folders, each with program, query and steps
 //!     runs-tests lengths             slices that are too short, stores that hold nothing
 
+#[path = "../../reader/src/command.rs"]
+mod command;
+
 use second::checker::Checker;
 use second::fuzz::{make, walk};
 use second::random::Random;
 use second::reader::{read_program, read_query};
 use second::limits::ANSWER_BYTES;
-use second::record::{record, Texts};
+use second::record::{self, record, Texts};
 use second::refusal::Refusal;
 use second::steps::{read_steps, Step};
 use second::store::write;
 use std::process::ExitCode;
 use std::time::Instant;
-use verified_calls::{answer, run, start, state, step, STORE, WORKING};
+use verified_calls::{answer, count, run, start, state, step, STORE, WORKING};
 
 fn main() -> ExitCode {
-    let arguments: Vec<String> = std::env::args().skip(1).collect();
-    let arguments: Vec<&str> = arguments.iter().map(String::as_str).collect();
-    let result = match arguments[..] {
-        ["random", seed, count] => match (seed.parse(), count.parse()) {
-            (Ok(seed), Ok(count)) => random(seed, count),
-            _ => return usage(),
-        },
-        ["cases", ref folders @ ..] => cases(folders),
-        ["lengths"] => lengths(),
-        _ => return usage(),
-    };
-    match result {
-        Ok(said) => {
-            println!("{said}");
-            ExitCode::SUCCESS
-        }
-        Err(said) => {
-            println!("{said}");
-            ExitCode::FAILURE
-        }
-    }
-}
-
-fn usage() -> ExitCode {
-    eprintln!("usage: runs-tests random SEED RUNS | cases FOLDER.. | lengths");
-    ExitCode::from(2)
+    command::main("runs-tests random SEED RUNS | cases FOLDER.. | lengths", |arguments| {
+        Some(match arguments {
+            ["random", seed, count] => random(seed.parse().ok()?, count.parse().ok()?),
+            ["cases", folders @ ..] => cases(folders),
+            ["lengths"] => lengths(),
+            _ => return None,
+        })
+    })
 }
 
 fn number(result: Result<(), Refusal>) -> usize {
@@ -98,7 +83,15 @@ fn begin(texts: &Texts) -> Result<(Checker, Vec<u32>), Refusal> {
 struct Counts {
     runs: usize,
     accepted: usize,
+    /// the answers that were counted, and the most in one configuration
+    answers: (usize, usize),
     refused: [usize; 19],
+}
+
+impl Counts {
+    fn counted(&self) -> String {
+        format!("the number of answers, {} in all and at most {}", self.answers.0, self.answers.1)
+    }
 }
 
 /// The start of a run, by both. None where it is refused.
@@ -226,22 +219,42 @@ fn record_by_calls(host: &mut Host, texts: &Texts) -> Result<Vec<u8>, String> {
     Ok(record)
 }
 
-/// The records of both are the same.
-fn record_both(host: &mut Host, texts: &Texts) -> Result<(), String> {
+/// How many answers there are at the end of a run, by both; the store is that of the end.
+fn count_both(host: &mut Host, texts: &Texts, counts: &mut Counts) -> Result<(), String> {
+    let Ok((mut checker, ..)) = record::run(texts) else {
+        return Ok(()); // "If a text or the start is refused" there is no configuration
+    };
+    host.lend(counts.runs);
+    let before = host.store.clone();
+    let got = count(&host.store, &mut host.work);
+    host.zero().map_err(|why| format!("count: {why}"))?;
+    let due = checker.answer_boxes().len();
+    if got != Ok(due) {
+        return Err(format!("count: {got:?}, due is {due}"));
+    }
+    if host.store != before {
+        return Err("count: the store is changed".into());
+    }
+    counts.answers = (counts.answers.0 + due, counts.answers.1.max(due));
+    Ok(())
+}
+
+/// The records of both are the same, and so are the numbers of answers.
+fn record_both(host: &mut Host, texts: &Texts, counts: &mut Counts) -> Result<(), String> {
     let got = record_by_calls(host, texts)?;
     let due = record(texts);
     if got != due {
         let text = |bytes: &[u8]| String::from_utf8_lossy(bytes).into_owned();
         return Err(format!("record\n{}due is\n{}", text(&got), text(&due)));
     }
-    Ok(())
+    count_both(host, texts, counts)
 }
 
 /// One random case: its steps text, and a run of single steps, right and wrong.
 fn one(seed: u64, host: &mut Host, counts: &mut Counts) -> Result<(), String> {
     let texts = make::texts(seed);
     text_both(host, &texts, counts)?;
-    record_both(host, &texts)?;
+    record_both(host, &texts, counts)?;
     let Some((mut checker, cells)) = begin_both(host, &texts, counts)? else {
         return Ok(());
     };
@@ -272,10 +285,11 @@ fn random(seed: u64, count: usize) -> Result<String, String> {
     let missing: Vec<usize> = due.into_iter().filter(|&n| counts.refused[n] == 0).collect();
     let seconds = begun.elapsed().as_secs_f64();
     let said = format!(
-        "{} random runs, {} single steps accepted, refusals 1 to 18: {:?}: both agree on every store and record, {seconds:.1} s",
+        "{} random runs, {} single steps accepted, refusals 1 to 18: {:?}: both agree on every store and record and on {}, {seconds:.1} s",
         counts.runs,
         counts.accepted,
-        &counts.refused[1..]
+        &counts.refused[1..],
+        counts.counted()
     );
     if counts.accepted == 0 || (count >= 2000 && missing.iter().any(|&n| n != 14)) {
         return Err(format!("{said}; never refused by {missing:?}"));
@@ -294,7 +308,7 @@ fn cases(folders: &[&str]) -> Result<String, String> {
             steps: read("steps.txt"),
         };
         text_both(&mut host, &texts, &mut counts).map_err(|why| format!("{folder}: {why}"))?;
-        record_both(&mut host, &texts).map_err(|why| format!("{folder}: {why}"))?;
+        record_both(&mut host, &texts, &mut counts).map_err(|why| format!("{folder}: {why}"))?;
         if let Some((mut checker, cells)) = begin_both(&mut host, &texts, &mut counts)? {
             for taken in read_steps(&texts.steps).unwrap_or_default() {
                 step_both(&mut host, &mut checker, &cells, taken, &mut counts).map_err(|why| format!("{folder}: {why}"))?;
@@ -302,7 +316,8 @@ fn cases(folders: &[&str]) -> Result<String, String> {
         }
         counts.runs += 1;
     }
-    Ok(format!("{} case folders, {} steps accepted: both agree on every store and record", counts.runs, counts.accepted))
+    let counted = counts.counted();
+    Ok(format!("{} case folders, {} steps accepted: both agree on every store and record and on {counted}", counts.runs, counts.accepted))
 }
 
 /// 8 where a slice is shorter than documented, 9 where the store holds nothing; 1 and 18 of a steps text come first.
@@ -333,6 +348,12 @@ fn lengths() -> Result<String, String> {
             host.zero()?;
             if got != due {
                 return Err(format!("store of {store}, working slice of {working}: step {got}, due is {due}"));
+            }
+            host.lend(1);
+            let got = count(&host.store, &mut host.work);
+            host.zero()?;
+            if got != Err(due) {
+                return Err(format!("store of {store}, working slice of {working}: count {got:?}, due is {due}"));
             }
         }
         if host.store != before {

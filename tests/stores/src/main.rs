@@ -5,6 +5,8 @@
 //!     stores-tests stack                the stack that the deepest and largest stores take
 //!     stores-tests deep                 these stores once, in the main thread
 
+#[path = "../../reader/src/command.rs"]
+mod command;
 mod large;
 #[path = "../../reader/src/stack.rs"]
 mod stack;
@@ -20,33 +22,15 @@ use verified_stores::{check, linked, WORKING};
 const STACK: usize = 256 * 1024;
 
 fn main() -> ExitCode {
-    let arguments: Vec<String> = std::env::args().skip(1).collect();
-    let arguments: Vec<&str> = arguments.iter().map(String::as_str).collect();
-    let result = match arguments[..] {
-        ["random", seed, count] => match (seed.parse(), count.parse()) {
-            (Ok(seed), Ok(count)) => random(seed, count),
-            _ => return usage(),
-        },
-        ["lengths"] => lengths(),
-        ["stack"] => stacks(),
-        ["deep"] => deep(),
-        _ => return usage(),
-    };
-    match result {
-        Ok(said) => {
-            println!("{said}");
-            ExitCode::SUCCESS
-        }
-        Err(said) => {
-            println!("{said}");
-            ExitCode::FAILURE
-        }
-    }
-}
-
-fn usage() -> ExitCode {
-    eprintln!("usage: stores-tests random SEED COUNT | lengths | stack | deep");
-    ExitCode::from(2)
+    command::main("stores-tests random SEED COUNT | lengths | stack | deep", |arguments| {
+        Some(match arguments {
+            ["random", seed, count] => random(seed.parse().ok()?, count.parse().ok()?),
+            ["lengths"] => lengths(),
+            ["stack"] => stacks(),
+            ["deep"] => deep(),
+            _ => return None,
+        })
+    })
 }
 
 fn random(seed: u64, count: u64) -> Result<String, String> {
