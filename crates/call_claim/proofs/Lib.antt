@@ -1,0 +1,10 @@
+pub mod Refused
+pub mod Accepting
+pub mod Histories
+pub mod Demand3
+pub mod Facts
+pub mod Told
+pub mod Used
+pub mod Tables
+pub mod RecordUsed
+pub mod Made

@@ -1,0 +1,4 @@
+pub mod Host
+pub mod Seen
+pub mod HostRun
+pub mod Table
