@@ -1,0 +1,4 @@
+pub mod Texts
+pub mod Stages
+pub mod Led
+pub mod Verdicts
