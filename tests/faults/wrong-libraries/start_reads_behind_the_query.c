@@ -1,0 +1,8 @@
+/* reported: of the query, which has .* in akl_start */
+#include "calls.h"
+
+size_t wrong_akl_start(const byte *program, size_t program_len, const byte *query, size_t query_len, byte *store, size_t store_len,
+                       byte *work, size_t work_len) {
+    if (query_len > 0) (void)*(volatile const byte *)(query + query_len);
+    return akl_start(program, program_len, query, query_len, store, store_len, work, work_len);
+}
