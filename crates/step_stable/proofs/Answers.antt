@@ -2,9 +2,8 @@
 use mathlib.Core.Path.{_≡_, refl, ap, ap₂, sym, _∙_, subst}
 use mathlib.Core.Bool.{Bool, true, false, _&&_, not}
 use mathlib.Core.List.{List}
-use Prim.Native.Nat.{ℕ, _+_, _<_, _≤_}
+use Prim.Native.Nat.{ℕ, _<_, _≤_}
 use native.Mathlib.Omega.{arith}
-use native.Mathlib.Decide.{ℕ-discrete}
 use lib.Dec.{T}
 use Rattle.constraint.specs.Solve.{quiet?}
 use Rattle.akl.specs.Base.{size, any, all, range}
@@ -73,14 +72,3 @@ module _ {W D : List Word} {g : ℕ} where
     where
       go : (s : State) (pl : Place) → Meant W D s → StandsAt s W pl g → false ≡ stable (program-of s) (config-of s) pl
       go s (at χ n) m h = loud-in W D s m χ n g h j a b (subst (λ (x : Bool). Unrest W D g j x) e u)
-
-  -- where the look begins, and a position further
-  pub calm-first : Calm W D g g
-  calm-first = record { still = λ i a b. absurd (omega arith) }
-
-  pub calm-next : {j : ℕ} {r : Bool} → Calm W D g j → Unrest W D g j r → r ≡ false → Calm W D g (j + 1)
-  calm-next {j} c u f = record { still = λ i a b. go i a b (ℕ-discrete i j) }
-    where
-      go : (i : ℕ) → g ≤ i → i < j + 1 → Dec (i ≡ j) → Unrest W D g i false
-      go i a b (yes e) = subst (λ (x : ℕ). Unrest W D g x false) (sym e) (subst (λ (x : Bool). Unrest W D g j x) f u)
-      go i a b (no e) = c .still i a (omega arith)

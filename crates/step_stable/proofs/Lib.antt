@@ -3,3 +3,4 @@ pub mod Here
 pub mod Whole
 pub mod Positions
 pub mod Answers
+pub mod Pieces

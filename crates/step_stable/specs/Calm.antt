@@ -1,10 +1,27 @@
--- How far a goal was looked at without unrest. Assumes nothing.
-use mathlib.Core.Bool.{false}
+-- Where in a goal there is no unrest. Assumes nothing.
+use mathlib.Core.Path.{_≡_}
+use mathlib.Core.Bool.{Bool, true, false}
 use mathlib.Core.List.{List}
 use Prim.Native.Nat.{ℕ, _<_, _≤_}
 use Rattle.mem_words.specs.declared.Word.{Word}
+use Rattle.rule_effects.specs.Effects.{behind}
+use Rattle.rule_kinds.specs.Kinds.{takes-in}
 use Rattle.step_meant.specs.Asked.{Unrest}
 
 -- there is no unrest before j in the goal at g
 pub record Calm (W D : List Word) (g j : ℕ) : Type 0 where
   pub still : (i : ℕ) → g ≤ i → i < j → Unrest W D g i false
+
+-- is there unrest at the goal's own place? Of an and-box nothing is said.
+pub record OwnPlace (W D : List Word) (g : ℕ) (b : Bool) : Type 0 where
+  pub stirs : b ≡ true → Unrest W D g g true
+  pub rests : b ≡ false → (takes-in W g ≡ 7 → ⊥) → Unrest W D g g false
+
+-- behind its first word and before j there is none but at and-boxes
+pub record RestTo (W D : List Word) (g j : ℕ) : Type 0 where
+  pub still : (i : ℕ) → g < i → i < j → (takes-in W i ≡ 7 → ⊥) → Unrest W D g i false
+
+-- is there none at the places inside the goal but at and-boxes?
+pub record PlacesRest (W D : List Word) (g : ℕ) (b : Bool) : Type 0 where
+  pub rests : b ≡ true → RestTo W D g (behind W g)
+  pub stirs : b ≡ false → (j : ℕ) × (g < j) × (j < behind W g) × Unrest W D g j true

@@ -62,7 +62,7 @@ module _ (W D : List Word) (g j : ℕ) (a : g ≤ j) (b : j < behind W g) where
   and-one false = refl
 
   -- the solver's answer
-  answer : (s : State) {k : akl.Kind} (χ : Ctx k) (n : Node k) (pl : Place) (r : Bool) → Meant W D s → Stands (number-in (table s)) χ n [] W g → StandsAt s W pl j → takes-number (kind-at pl) ≡ 7 → QuietIn W g j r
+  pub answer : (s : State) {k : akl.Kind} (χ : Ctx k) (n : Node k) (pl : Place) (r : Bool) → Meant W D s → Stands (number-in (table s)) χ n [] W g → StandsAt s W pl j → takes-number (kind-at pl) ≡ 7 → QuietIn W g j r
       → r ≡ all (quiet? (locals n) (env χ)) (stores-at pl)
   unfolding kind-at all and-one
   answer s χ n (at χ′ (or ns)) r m p q e x = absurd (or-not χ′ e)

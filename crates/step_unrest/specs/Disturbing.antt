@@ -1,7 +1,7 @@
 -- A place at or inside a goal, by positions; whether a rule that is determinate rewrites the goal or something inside it when it is
 -- applied there. Each is said of every state that the words mean. Assumes nothing.
 use mathlib.Core.Path.{_≡_}
-use mathlib.Core.Bool.{Bool}
+use mathlib.Core.Bool.{Bool, true}
 use mathlib.Core.List.{List}
 use Prim.Native.Nat.{ℕ, _<_, _≤_}
 use Rattle.akl.specs.Base.{any, range}
@@ -11,6 +11,7 @@ use Rattle.akl.specs.Stability.{disturbs}
 use Rattle.mem_words.specs.declared.Word.{Word}
 use Rattle.store_form.specs.State.{State, program-of, config-of}
 use Rattle.rule_effects.specs.Effects.{behind}
+use Rattle.rule_kinds.specs.Kinds.{takes-in}
 use Rattle.step_meant.specs.Meant.{Meant, StandsAt}
 
 -- some state, a goal of its configuration at g and a place at or inside it at j are meant
@@ -31,3 +32,14 @@ pub record DisturbsAt (W D : List Word) (g j r : ℕ) (b : Bool) : Type 0 where
 -- does any of the fourteen?
 pub record Disturbed (W D : List Word) (g j : ℕ) (b : Bool) : Type 0 where
   pub right : (s : State) {k : Kind} (χ : Ctx k) (n : Node k) (pl : Place) → Meant W D s → StandsAt s W (at χ n) g → StandsAt s W pl j → b ≡ any (λ r. disturbs (program-of s) (config-of s) χ n r pl) (range 1 14)
+
+-- Inside a goal every rule rewrites the goal or something inside it, so that one answer serves all goals around the place at j: does
+-- a determinate rule take the place, which is no and-box, and apply? None does where no place begins.
+pub record MovedAt (W D : List Word) (j : ℕ) (b : Bool) : Type 0 where
+  pub right : (takes-in W j ≡ 7 → ⊥) → (g : ℕ) → g < j → j < behind W g → Disturbed W D g j b
+  pub place : b ≡ true → (takes-in W j ≡ 10 → ⊥) × (takes-in W j ≡ 7 → ⊥)
+
+-- some state is meant
+pub record Means (W D : List Word) : Type 0 where
+  pub state : State
+  pub meant : Meant W D state

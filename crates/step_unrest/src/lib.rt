@@ -2,12 +2,14 @@
 // it, or stores that are not quiet.
 ghost use mathlib.Core.Path.{_≡_};
 ghost use Prim.Native.Nat.{_<_, _≤_};
+ghost use lib.ListN.{length};
 ghost use Rattle.mem_words.specs.Words.{words};
 ghost use Rattle.work_tables.specs.Tables.{Laid};
 ghost use Rattle.rule_effects.specs.Effects.{behind};
 ghost use Rattle.rule_kinds.specs.Kinds.{takes-in};
 ghost use Rattle.step_meant.specs.Asked.{Unrest, CanAsk};
-ghost use Rattle.step_unrest.specs.Disturbing.{CanPlace, DisturbsAt, Disturbed};
+ghost use Rattle.step_unrest.specs.Disturbing.{CanPlace, DisturbsAt, Disturbed, MovedAt, Means};
+use mem_sorts::Kind;
 use rule_table::Mode;
 use rule_table::Row;
 
@@ -71,4 +73,69 @@ pub fn unrest_at(t: &[u8], d: &[u8], w: &mut [u8], g: usize, j: usize) -> bool
         return true; // not quiet
     }
     false
+}
+
+// Whether rule 10 or 6 applies to the choice-box at `j`. What is near is looked at first.
+fn choice_box_moves(t: &[u8], d: &[u8], w: &mut [u8], j: usize) -> bool
+    requires { ⌜ Laid (now w) × Means (words (now t)) (words (now d)) × (j < length (words (now t))) × (5 ≡ takes-in (words (now t)) j) ⌝ }
+    ensures { λ b. ⌜ MovedAt (words (now (t .entry))) (words (now (d .entry))) j b × Laid (now (w .exit)) ⌝ }
+{
+    let c = mem_words::count(t);
+    if step_applies::applies(t, d, w, 10, j) {
+        return true; // empty
+    }
+    if rule_guards::solved(t, j + 2) {
+        return step_applies::applies(t, d, w, 6, j);
+    }
+    false // not promoted
+}
+
+// Whether rule 11, 13, 7 or 8 applies to the guarded goal at `j`. What is near is looked at first.
+fn guarded_goal_moves(t: &[u8], d: &[u8], w: &mut [u8], j: usize) -> bool
+    requires { ⌜ Laid (now w) × Means (words (now t)) (words (now d)) × (j < length (words (now t))) × (6 ≡ takes-in (words (now t)) j) ⌝ }
+    ensures { λ b. ⌜ MovedAt (words (now (t .entry))) (words (now (d .entry))) j b × Laid (now (w .exit)) ⌝ }
+{
+    let c = mem_words::count(t);
+    if step_applies::applies(t, d, w, 11, j) {
+        return true; // failed
+    }
+    if step_applies::applies(t, d, w, 13, j) {
+        return true; // distributed
+    }
+    if rule_guards::solved(t, j + 1) {
+        let a = rule_around::opening_of(t, j);
+        if rule_shapes::is_kind(t, a, Kind::Wait) {
+            return false; // in a `?`
+        }
+        if step_applies::applies(t, d, w, 7, j) {
+            return true; // condition
+        }
+        return step_applies::applies(t, d, w, 8, j);
+    }
+    false // not solved
+}
+
+// Whether a determinate rule takes the place at `j` of the configuration in `t`, whose program is in `d`, and applies. It then disturbs
+// every goal that the place is inside of. And-boxes are left to others.
+pub fn disturbed_at(t: &[u8], d: &[u8], w: &mut [u8], j: usize) -> bool
+    requires { ⌜ Laid (now w) × Means (words (now t)) (words (now d)) × (j < length (words (now t))) ⌝ }
+    ensures { λ b. ⌜ MovedAt (words (now (t .entry))) (words (now (d .entry))) j b × Laid (now (w .exit)) ⌝ }
+{
+    let k = rule_kinds::kind(t, j);
+    if k == 10 {
+        return false; // none begins there
+    }
+    if k == 7 {
+        return false; // an and-box
+    }
+    if k == 9 {
+        return false; // an or-box that no rule takes
+    }
+    if k == 5 {
+        return choice_box_moves(t, d, w, j);
+    }
+    if k == 6 {
+        return guarded_goal_moves(t, d, w, j);
+    }
+    true // a statement, or an or-box in an or-box
 }

@@ -1,0 +1,4 @@
+pub mod Shapes
+pub mod Boxes
+pub mod Stood
+pub mod Leaving

@@ -1,0 +1,65 @@
+// The and-boxes of a goal tested in one walk over its words: their stores are told and taken back as the boxes are entered and left.
+ghost use Prim.Native.Nat.{_+_};
+ghost use Rattle.mem_words.specs.Words.{words};
+ghost use Rattle.work_tables.specs.Tables.{Laid};
+ghost use Rattle.step_turn.specs.Stood.{CanWalk, Stood};
+ghost use Rattle.step_walk.specs.Calm.{Boxed, BoxesCalm};
+use mem_sorts::Kind;
+use rule_tells::Around;
+use step_turn::Next;
+
+// Whether no and-box begins at or inside the goal at `g`.
+fn boxless(t: &[u8], g: usize) -> bool
+    ensures { λ r. ⌜ Boxed (words (now (t .entry))) g r ⌝ }
+{
+    let e = rule_close::end_of(t, g);
+    let mut j = g;
+    while j <= e {
+        if rule_shapes::is_kind(t, j, Kind::And) {
+            return false;
+        }
+        j += 1;
+    }
+    true
+}
+
+// Goes over the words of the goal at `g`, whose environment was told up to the mark (`u`, `n`, `a`).
+fn walk(t: &[u8], w: &mut [u8], g: usize, u: usize, n: usize, a: usize) -> bool
+    requires { ⌜ CanWalk (words (now t)) g × Stood (words (now t)) g n (now w) g 0 0 u n a ⌝ }
+    ensures { λ r. ⌜ BoxesCalm (words (now (t .entry))) g r × Laid (now (w .exit)) ⌝ }
+{
+    let e = rule_close::end_of(t, g);
+    let mut j = g;
+    let mut d: usize = 0;
+    let mut k: usize = 0;
+    let mut x = u;
+    let mut y = n;
+    let mut z = a;
+    while j < e {
+        let Next::On(d1, k1, x1, y1, z1) = step_turn::turn(t, w, n, j, d, k, x, y, z) else {
+            return false; // the box at j is not calm
+        };
+        d = d1;
+        k = k1;
+        x = x1;
+        y = y1;
+        z = z1;
+        j += 1;
+    }
+    true
+}
+
+// Whether every and-box at or inside the goal at `g` has a solution with its environment, and the stores from the goal down to it are
+// quiet for the goal's environment.
+pub fn calm(t: &[u8], w: &mut [u8], g: usize) -> bool
+    requires { ⌜ Laid (now w) × CanWalk (words (now t)) g ⌝ }
+    ensures { λ r. ⌜ BoxesCalm (words (now (t .entry))) g r × Laid (now (w .exit)) ⌝ }
+{
+    rule_locals::mark_inside(t, w, g);
+    mem_parts::zero(w, 16384, 212992);
+    let r = rule_tells::tell_from(t, w, 0, g, 0, 0, 0);
+    match r {
+        Around::All(u, n, a) => walk(t, w, g, u, n, a),
+        Around::Failed => boxless(t, g), // no box has a solution with its environment
+    }
+}
