@@ -37,7 +37,7 @@ hits-no w (suc p) h = refl
 pub passed-by : (w : Word) (p r : ℕ) (b : Bool) → b ≡ begins w → r ≡ cond b (p - 1) p → r ≡ passed w p
 passed-by w p r b e f = f ∙ ap (λ (x : Bool). cond x (p - 1) p) e
 
-one-word : (w : Word) (r : List Word) (p : ℕ) → place-at (w ∷ r) p ≡ cond (hits w p) 0 (suc (place-at r (passed w p)))
+pub one-word : (w : Word) (r : List Word) (p : ℕ) → place-at (w ∷ r) p ≡ cond (hits w p) 0 (suc (place-at r (passed w p)))
 unfolding place-at
 one-word End r zero = refl
 one-word End r (suc p) = refl

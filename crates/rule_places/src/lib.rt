@@ -1,10 +1,12 @@
 // Where a place stands in lent words, by its number.
 ghost use mathlib.Core.Path.{_≡_};
-ghost use Prim.Native.Nat.{_≤_};
+ghost use Prim.Native.Nat.{_+_, _*_, _≤_};
 ghost use lib.ListN.{length};
-ghost use Rattle.mem_words.specs.Words.{words};
+ghost use Rattle.mem_words.specs.Words.{words, word};
 ghost use Rattle.store_words.specs.Contexts.{place-at};
+ghost use Rattle.mem_tallies.specs.Tallies.{firsts, if-first, Tallied};
 ghost use Rattle.rule_places.specs.Finding.{begins, hits, passed};
+ghost use Rattle.rule_places.specs.Pieces.{place-one, InPiece, AheadOf};
 use mem_words::Word;
 use read_steps::Place;
 
@@ -41,13 +43,71 @@ fn passes(w: Word, p: u64) -> u64
     }
 }
 
+// How far a search is, and how many places are still before the one that is looked for.
+pub struct Ahead {
+    pub at: usize,
+    pub left: u64,
+}
+
+// 1 where the bytes are those of a word with which a place begins, and `m` marks the first of them. No branch stays in the machine's code.
+fn one(m: u8, c: u8, lo: u8, hi: u8) -> u8
+    ensures { λ r. ⌜ (r ≡ if-first m (place-one (word c (lo + hi * 256)))) × (r ≤ 1) ⌝ }
+{
+    if m == 0 {
+        return 0;
+    }
+    if c != 4 {
+        return 0; // another class
+    }
+    if hi != 0 {
+        return 0; // no kind
+    }
+    if lo < 7 { 1 } else { 0 }
+}
+
+// How many places begin in the sixteen words from `i` on; `m` marks the bytes with which words begin.
+fn places(ws: &[u8], i: usize, m: &[u8]) -> u8
+    requires { ⌜ InPiece (now ws) i (now m) ⌝ }
+    ensures { λ r. ⌜ Tallied place-one (now (ws .entry)) i 48 r ⌝ }
+{
+    let j = 3 * i;
+    let mut s: u8 = 0;
+    let mut k = 0;
+    while k < 48 {
+        let x = j + k;
+        s += one(m[k], ws[x], ws[x + 1], ws[x + 2]);
+        k += 1;
+    }
+    s
+}
+
+// Passes over pieces of sixteen words, as long as the place is behind them.
+fn front(ws: &[u8], p: u64) -> Ahead
+    ensures { λ r. ⌜ AheadOf (words (now (ws .entry))) p r ⌝ }
+{
+    let n = mem_words::count(ws);
+    let m = mem_tallies::first_bytes();
+    let mut i = 0;
+    let mut left = p;
+    while 17 <= n - i {
+        let s = places(ws, i, &m) as u64;
+        if left < s {
+            return Ahead { at: i, left: left };
+        }
+        left -= s;
+        i += 16;
+    }
+    Ahead { at: i, left: left }
+}
+
 // Where the place stands; the number of words if there is none of that number.
 pub fn position_of(ws: &[u8], p: Place) -> usize
     ensures { λ r. ⌜ (r ≡ place-at (words (now (ws .entry))) (p .0)) × (r ≤ length (words (now (ws .entry)))) ⌝ }
 {
     let n = mem_words::count(ws);
-    let mut i = 0;
-    let mut left = p.0;
+    let a = front(ws, p.0);
+    let mut i = a.at;
+    let mut left = a.left;
     while i < n {
         let w = mem_get::get(ws, i);
         if is_hit(w, left) {

@@ -1,4 +1,4 @@
--- What a pass over words knows when it has counted the first i of them. Assumes nothing.
+-- What a pass over words knows when it has counted some of them. Assumes nothing.
 use mathlib.Core.Path.{_≡_, sym, ap, _∙_, subst}
 use mathlib.Core.List.{List, [], _∷_}
 use Prim.Native.Nat.{ℕ, suc, _+_, _*_, _≤_, _<_}
@@ -15,14 +15,25 @@ use Rattle.mem_sorts.specs.declared.Kind.the-variants.{Or, And, Guarded, Member
 use Rattle.mem_sorts.specs.declared.Sort.{Sort}
 use Rattle.mem_sorts.specs.declared.Sort.the-variants.{Locals, Store, True, Fail, Eq, App, Call, Comp, Hide, Clause, AskWait, AskCond, AskCommit}
 use Rattle.store_parts.specs.declared.Among.{Among}
+use Rattle.store_parts.specs.declared.Count.{Count}
 use Rattle.store_parts.specs.declared.Among.the-variants.{Others, Variables, Hidden}
 use Rattle.store_parts.specs.Counting.{kind-parts, sort-parts, free-parts, number-parts, word-parts, behind-word, parts-in}
 
-pub record Counted (W : List Word) (m : Among) (r i : ℕ) : Type 0 where
-  pub within : i ≤ length W
+-- from word i on, among m₀, up to word e: r parts, and the word at e stands among m
+pub record Counted (W : List Word) (m₀ : Among) (i : ℕ) (m : Among) (r e : ℕ) : Type 0 where
+  pub from : i ≤ e
+  pub within : e ≤ length W
   -- a word counts less than its value can be
-  pub small : r ≤ 65536 * i
-  pub left : r + parts-in m (drop i W) ≡ parts-in Others W
+  pub small : r + 65536 * i ≤ 65536 * e
+  pub left : r + parts-in m (drop e W) ≡ parts-in m₀ (drop i W)
+
+pub record CanRun (W : List Word) (i e : ℕ) : Type 0 where
+  pub from : i ≤ e
+  pub within : e ≤ length W
+  pub few : length W ≤ 1048576
+
+pub record Ran (W : List Word) (m : Among) (i e : ℕ) (c : Count) : Type 0 where
+  pub counted : Counted W m i (c .among) (c .parts) e
 
 kind-few : (k : Kind) → kind-parts k < 65536
 kind-few Or = omega arith
@@ -68,17 +79,21 @@ word-few m (Place k) s = kind-few k
 word-few m (Inner k) s = sort-few k
 word-few m Bad s = omega arith
 
-pub counted-none : (W : List Word) → Counted W Others 0 0
-counted-none W = record { within = omega arith; small = omega arith; left = zero-add (parts-in Others W) }
+pub counted-none : (W : List Word) (m : Among) (i : ℕ) → i ≤ length W → Counted W m i m 0 i
+counted-none W m i h = record { from = omega arith; within = h; small = omega arith; left = zero-add (parts-in m (drop i W)) }
 
-pub counted-next : (W : List Word) (m n : Among) (r p i : ℕ) (w : Word) → i < length W → Counted W m r i → Read W i w → p ≡ word-parts m w → n ≡ behind-word m w → Counted W n (r + p) (i + 1)
+pub counted-next : (W : List Word) (m₀ m n : Among) (i r p e : ℕ) (w : Word) → e < length W → Counted W m₀ i m r e → Read W e w → p ≡ word-parts m w → n ≡ behind-word m w → Counted W m₀ i n (r + p) (e + 1)
 unfolding parts-in
-counted-next W m n r p i w h c e ep en =
-    let b : p < 65536 = subst (λ (x : ℕ). x < 65536) (sym ep) (word-few m w (e .small)) in
-    let d : drop i W ≡ w ∷ drop (i + 1) W = drop-cons W i Bad h ∙ ap (λ (x : Word). x ∷ drop (suc i) W) (sym (e .is)) ∙ ap (λ (j : ℕ). w ∷ drop j W) (sym (add-one i)) in
-    let f : parts-in m (drop i W) ≡ p + parts-in n (drop (i + 1) W) = ap (parts-in m) d ∙ ap (λ (x : ℕ). x + parts-in (behind-word m w) (drop (i + 1) W)) (sym ep) ∙ ap (λ (x : Among). p + parts-in x (drop (i + 1) W)) (sym en) in
-    record { within = omega arith; small = omega (arith, c .small); left = omega (arith, c .left, f) }
+counted-next W m₀ m n i r p e w h c g ep en =
+    let b : p < 65536 = subst (λ (x : ℕ). x < 65536) (sym ep) (word-few m w (g .small)) in
+    let d : drop e W ≡ w ∷ drop (e + 1) W = drop-cons W e Bad h ∙ ap (λ (x : Word). x ∷ drop (suc e) W) (sym (g .is)) ∙ ap (λ (j : ℕ). w ∷ drop j W) (sym (add-one e)) in
+    let f : parts-in m (drop e W) ≡ p + parts-in n (drop (e + 1) W) = ap (parts-in m) d ∙ ap (λ (x : ℕ). x + parts-in (behind-word m w) (drop (e + 1) W)) (sym ep) ∙ ap (λ (x : Among). p + parts-in x (drop (e + 1) W)) (sym en) in
+    record { from = omega (arith, c .from); within = omega arith; small = omega (arith, c .small); left = omega (arith, c .left, f) }
 
-pub counted-all : (W : List Word) (m : Among) (r i : ℕ) → length W ≤ i → Counted W m r i → r ≡ parts-in Others W
+-- one run behind another
+pub counted-on : {W : List Word} {m₀ m n : Among} {i r p e k : ℕ} → Counted W m₀ i m r e → Counted W m e n p k → Counted W m₀ i n (r + p) k
+counted-on c d = record { from = omega (arith, c .from, d .from); within = d .within; small = omega (arith, c .small, d .small); left = omega (arith, c .left, d .left) }
+
+pub counted-all : (W : List Word) (m : Among) (r e : ℕ) → length W ≤ e → Counted W Others 0 m r e → r ≡ parts-in Others W
 unfolding parts-in
-counted-all W m r i h c = let f : parts-in m (drop i W) ≡ 0 = ap (parts-in m) (drop-of-length-le W h) in omega (arith, c .left, f)
+counted-all W m r e h c = let f : parts-in m (drop e W) ≡ 0 = ap (parts-in m) (drop-of-length-le W h) in omega (arith, c .left, f)

@@ -1,2 +1,3 @@
 pub mod Counting
 pub mod Counts
+pub mod Pieces

@@ -11,7 +11,7 @@ use Rattle.rule_places.proofs.position_of.Statement.{statement}
 use Rattle.rule_places.proofs.position_of.Tie as tie
 
 abbrev Inv-loop : tie.InvT-loop
-Inv-loop ws n i₀ left₀ i left = (i ≤ n) × (i + place-at (drop i (words ws)) left ≡ place-at (words ws) left₀)
+Inv-loop ws n i₀ left₀ i left = (i ≤ n) × (i + place-at (drop i (words ws)) left ≡ i₀ + place-at (drop i₀ (words ws)) left₀)
 
 abbrev μ-loop : tie.MeasureT-loop
 μ-loop ws n i₀ left₀ i left = n - i
@@ -19,8 +19,11 @@ abbrev μ-loop : tie.MeasureT-loop
 count-requires : tie.Need-count-requires Inv-loop μ-loop
 count-requires c κs = search needs
 
+front-requires : tie.Need-front-requires Inv-loop μ-loop
+front-requires c κs = search needs
+
 loop-holds : tie.Need-loop-holds Inv-loop μ-loop
-loop-holds c = (omega arith, omega arith)
+loop-holds c = (omega (arith, c .front .ensures .within), refl)
 
 get-requires : tie.Need-get-requires Inv-loop μ-loop
 get-requires c κs = omega arith
@@ -31,7 +34,7 @@ is-hit-requires c κs = search needs
 returns : tie.Need-returns Inv-loop μ-loop
 returns c =
     let lp = c .before .before .before .before .loop in
-    (omega (arith, lp .inv .1, place-hit (words (c .before .before .before .before .before .before .before .args .ws .now)) (lp .i) (lp .left) (c .before .before .get .result) (c .before .is-hit .result) (omega arith) (c .before .before .get .ensures .is) (c .before .is-hit .ensures) (c .if1 .taken)), omega arith)
+    (omega (arith, lp .inv .1, c .before .before .before .before .before .front .ensures .same, place-hit (words (c .before .before .before .before .before .before .before .before .args .ws .now)) (lp .i) (lp .left) (c .before .before .get .result) (c .before .is-hit .result) (omega arith) (c .before .before .get .ensures .is) (c .before .is-hit .ensures) (c .if1 .taken)), omega arith)
 
 passes-requires : tie.Need-passes-requires Inv-loop μ-loop
 passes-requires c κs = search needs
@@ -45,12 +48,12 @@ loop-less c = search needs
 loop-again : tie.Need-loop-again Inv-loop μ-loop
 loop-again c =
     let lp = c .before .before .before .before .before .loop in
-    (omega arith, omega (arith, lp .inv .1, place-on (words (c .before .before .before .before .before .before .before .before .args .ws .now)) (lp .i) (lp .left) (c .passes .result) (c .before .before .before .get .result) (c .before .before .is-hit .result) (omega arith) (c .before .before .before .get .ensures .is) (c .before .before .is-hit .ensures) (c .before .if1 .left) (c .passes .ensures)))
+    (omega arith, omega (arith, lp .inv .1, place-on (words (c .before .before .before .before .before .before .before .before .before .args .ws .now)) (lp .i) (lp .left) (c .passes .result) (c .before .before .before .get .result) (c .before .before .is-hit .result) (omega arith) (c .before .before .before .get .ensures .is) (c .before .before .is-hit .ensures) (c .before .if1 .left) (c .passes .ensures)))
 
 returns-2 : tie.Need-returns-2 Inv-loop μ-loop
 returns-2 c =
     let lp = c .before .loop in
-    (omega (arith, lp .inv .1, place-end (words (c .before .before .before .before .args .ws .now)) (lp .i) (lp .left) (omega arith)), omega arith)
+    (omega (arith, lp .inv .1, c .before .before .front .ensures .same, place-end (words (c .before .before .before .before .before .args .ws .now)) (lp .i) (lp .left) (omega arith)), omega arith)
 
 pub position-of-spec : {M : Type 1} → statement M
-position-of-spec = tie.close (tie.spec Inv-loop μ-loop count-requires loop-holds get-requires is-hit-requires returns passes-requires add-i loop-less loop-again returns-2)
+position-of-spec = tie.close (tie.spec Inv-loop μ-loop count-requires front-requires loop-holds get-requires is-hit-requires returns passes-requires add-i loop-less loop-again returns-2)
