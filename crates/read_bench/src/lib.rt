@@ -1,5 +1,4 @@
-// The reader of `inputs` as a function that C and Rust can call, for tests/reader and bench/reader.
-ghost use mathlib.Core.Path.{_≡_};
+// `read_both::read` as a function that C and Rust can call, for tests/reader and bench/reader.
 ghost use Rattle.mem_numbers.specs.Numbers.{shorts, triples, longs};
 ghost use Rattle.mem_words.specs.Words.{words};
 ghost use Rattle.read_inputs.specs.Inputs.{InputsTo};

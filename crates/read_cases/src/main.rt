@@ -3,7 +3,6 @@
 // of the variables' names, of two bytes, and the words of the program and of the query, of three. Else a line: `refusal` and
 // its number. A file that cannot be opened counts as empty. The tables have room for every text within its limit.
 ghost use mathlib.Core.Path.{_≡_};
-ghost use Prim.Native.Nat.{_≤_};
 ghost use lib.ListN.{length};
 ghost use Rattle.io.specs.Counts.{Counts};
 use read_inputs::Inputs;
