@@ -220,6 +220,30 @@ fn splitting_inside(parts: usize) -> Case {
     }
 }
 
+/// Splitting at the bottom of a nest of boxes, the top named: each box is
+/// entered, told and tested, and left again. Each store binds a variable of the
+/// box around it to a term over its own.
+pub fn nest(boxes: usize) -> Case {
+    let rules = "c(X) := (Z : X = f(Z), (true | c(Z) ; true | e) ? true).\n\
+                 e := (true ? true ; true ? true).\n";
+    let mut before = Vec::new();
+    for level in 1..=boxes {
+        let at = 2 + 3 * (level - 1);
+        let down = if level < boxes { [(1, 6), (8, 4), (6, 3)] } else { [(1, 9), (8, 7), (6, 3)] };
+        for (rule, place) in [(2, 0), (5, 0), (3, 3), (1, 3), (5, 3)].into_iter().chain(down) {
+            before.push(step(rule, at + place));
+        }
+    }
+    let at = 2 + 3 * boxes;
+    before.extend([(2, 0), (5, 0), (1, 3), (1, 5)].map(|(rule, place)| step(rule, at + place)));
+    Case {
+        what: "rule 12 at the bottom of a nest of boxes, the top named",
+        checker: checker(rules, "c(X).", &before),
+        steps: vec![splitting_step(12, at, 0)],
+        copies: 300,
+    }
+}
+
 impl Case {
     /// Nanoseconds a step, the least of all copies: others use the machine too.
     fn measure(&self) -> f64 {

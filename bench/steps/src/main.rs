@@ -5,7 +5,7 @@
 //! store in bytes, checks that it is well formed, and leaves its working slice zero; the second checker goes on from its own
 //! configuration, with the stores that it told to its solver before.
 
-use second::bench::{Case, KINDS};
+use second::bench::{nest, Case, KINDS};
 use second::fuzz::walk;
 use second::store::write;
 use std::hint::black_box;
@@ -73,6 +73,20 @@ fn measure(case: &Case) -> Measured {
     least
 }
 
+/// A call that is refused as soon as the store is checked: what every call costs on it.
+fn checked(case: &Case) -> f64 {
+    let cells = write::start_table(&case.checker.query);
+    let mut store = write::raw(&case.checker, &cells).bytes();
+    let mut work = vec![0; WORKING];
+    let mut least = f64::INFINITY;
+    for _ in 0..ROUNDS {
+        let begin = Instant::now();
+        assert_eq!(black_box(step(&mut store, &mut work, 0, 0, 0)), 10);
+        least = least.min(begin.elapsed().as_nanos() as f64);
+    }
+    least
+}
+
 fn main() {
     println!("| Steps | Parts | steps text, ns a step | second checker | ratio | one call, ns |");
     println!("|---|---|---|---|---|---|");
@@ -90,5 +104,13 @@ fn main() {
                 m.single
             );
         }
+    }
+    println!();
+    println!("| Boxes nested | Parts | one call, ns | of it the check of the store | second checker |");
+    println!("|---|---|---|---|---|");
+    for boxes in [30, 100, 300] {
+        let case = nest(boxes);
+        let m = measure(&case);
+        println!("| {boxes} | {} | {:.0} | {:.0} | {:.0} |", case.checker.config.parts, m.single, checked(&case), m.second);
     }
 }

@@ -30,9 +30,22 @@ pub enum Trouble {
     Level,
 }
 
-/// A clause that a store does not meet.
-#[derive(Clone, Copy, Debug, PartialEq, Eq, PartialOrd, Ord)]
-pub enum Fault {
+/// The clauses that are one fault each: listed once, for the type and for `all`.
+macro_rules! faults {
+    ($($(#[$told:meta])* $plain:ident,)*) => {
+        /// A clause that a store does not meet.
+        #[derive(Clone, Copy, Debug, PartialEq, Eq, PartialOrd, Ord)]
+        pub enum Fault {
+            $($(#[$told])* $plain,)*
+            /// "its program and statements would pass 2 to 7"
+            Statement(Where, Trouble),
+        }
+
+        const PLAIN: &[Fault] = &[$(Fault::$plain),*];
+    };
+}
+
+faults! {
     // The form.
     FormNumber,
     NodesCount,
@@ -64,7 +77,6 @@ pub enum Fault {
     DefinedTwice,
     /// 6: a variable's number in a program
     NumberInProgram,
-    Statement(Where, Trouble),
     /// rule 1 stores no `true`
     StoredTrue,
     /// The top is an and-box.
@@ -92,55 +104,11 @@ pub enum Fault {
 
 use Fault::*;
 
-const PLAIN: [Fault; 40] = [
-    FormNumber,
-    NodesCount,
-    ProgramCount,
-    VariablesCount,
-    ConfigCount,
-    UnusedNames,
-    UnusedProgram,
-    UnusedVariables,
-    UnusedConfig,
-    BadProgramWord,
-    BadConfigWord,
-    Root,
-    Parent,
-    NameTwice,
-    VariableNode,
-    NextOver,
-    ProgramShape,
-    ConfigShape,
-    Definitions,
-    Parameters,
-    HeadSpelling,
-    DefinedTwice,
-    NumberInProgram,
-    StoredTrue,
-    Top,
-    LocalTwice,
-    InterferenceInside,
-    InterferenceBeside,
-    ScopeMember,
-    ScopeStore,
-    ScopeBody,
-    VariableSpelling,
-    VariableTwice,
-    QueryNotLocal,
-    QueryLocalElsewhere,
-    NextQuery,
-    NextLocal,
-    NextMember,
-    NextStore,
-    NextBody,
-];
-
 impl Fault {
     /// Every clause.
     pub fn all() -> Vec<Fault> {
         use Trouble::*;
         let mut all = PLAIN.to_vec();
-        all.push(Parts);
         for place in [Where::Program, Where::Member, Where::Body] {
             let troubles = [
                 Spelling,
@@ -154,7 +122,6 @@ impl Fault {
             all.extend(troubles.map(|trouble| Statement(place, trouble)));
         }
         all.extend([Spelling, Arguments].map(|trouble| Statement(Where::Store, trouble)));
-        all.sort();
         all
     }
 
