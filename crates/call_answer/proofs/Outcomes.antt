@@ -18,7 +18,7 @@ use Rattle.store_form.specs.State.{State, names-of}
 use Rattle.store_words.proofs.Sizes.{size-length}
 use Rattle.store_calls.specs.Outcomes.{slices-short, held, on-held, on-state, answer-done, answer-outcome}
 use Rattle.store_calls.specs.Handed.{written}
-use Rattle.start_settle.specs.Settled.{working-bytes}
+use Rattle.store_lent.specs.Lent.{working-bytes}
 use Rattle.step_meant.specs.Deciding.{HoldsState}
 use Rattle.answer_emit.specs.Put.{put, Put, put-fits}
 use Rattle.call_answer.specs.Called.{answer-told, AnswerTo, state-answer, AnswerOf}

@@ -11,7 +11,7 @@ use Rattle.store_form.specs.State.{State, names-of}
 use Rattle.store_form.specs.Form.{rules-words}
 use Rattle.store_calls.specs.Outcomes.{answer-done, answer-outcome}
 use Rattle.store_calls.specs.Handed.{written}
-use Rattle.start_settle.specs.Settled.{working-bytes}
+use Rattle.store_lent.specs.Lent.{working-bytes}
 use Rattle.step_meant.specs.Meant.{Meant}
 use Rattle.step_meant.specs.Deciding.{HoldsState}
 use Rattle.answer_boxes.specs.Asked.{AnswerStands}

@@ -35,7 +35,7 @@ use Rattle.store_calls.specs.Outcomes.{held, put-state}
 use Rattle.store_calls.proofs.OnBytes.{begin-held}
 use Rattle.store_calls.proofs.Demand3.{begins-stands}
 use Rattle.start_outcome.specs.Outcome.{Started}
-use Rattle.start_settle.specs.Settled.{working-bytes}
+use Rattle.store_lent.specs.Lent.{working-bytes}
 use Rattle.start_call.specs.Called.{StartCalled}
 use Rattle.call_claim.specs.Host.{HostCall, History}
 use Rattle.call_claim.specs.Seen.{accepted-steps}

@@ -27,7 +27,7 @@ use Rattle.store_calls.specs.Handed.{returned, written}
 use Rattle.store_calls.specs.Calls as bytes
 use Rattle.store_calls.specs.Calls.{Asked, call-outcome, asked-meant, meant}
 use Rattle.store_calls.proofs.OnBytes.{begin-long, begin-held, call-on-bytes}
-use Rattle.start_settle.specs.Settled.{working-bytes}
+use Rattle.store_lent.specs.Lent.{working-bytes}
 use Rattle.call_run.specs.Called.{run-number}
 use Rattle.call_answer.specs.Called.{answer-told}
 use Rattle.call_state.specs.Called.{state-told}

@@ -7,7 +7,7 @@ use lib.ListN.{length, replicate}
 use Rattle.akl.specs.Limits.{most-parts}
 use Rattle.store_calls.specs.Outcomes.{step-outcome, run-outcome, answer-outcome, state-outcome, slices-short, held}
 use Rattle.store_calls.specs.Handed.{returned, written}
-use Rattle.start_settle.specs.Settled.{working-bytes}
+use Rattle.store_lent.specs.Lent.{working-bytes}
 use Rattle.call_run.specs.Called.{run-number}
 use Rattle.call_answer.specs.Called.{answer-told}
 use Rattle.call_state.specs.Called.{state-told}

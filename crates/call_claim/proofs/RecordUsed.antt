@@ -18,7 +18,7 @@ use Rattle.akl.specs.Configuration.{Config}
 use Rattle.runs.specs.Calls.{after-calls}
 use Rattle.runs.proofs.Used.{program-of, query-of, config-of, line, P₀, q₀, c₀, kept, new, used-answers}
 use Rattle.store_calls.specs.Handed.{returned, counted, written}
-use Rattle.start_settle.specs.Settled.{working-bytes}
+use Rattle.store_lent.specs.Lent.{working-bytes}
 use Rattle.start_call.specs.Called.{StartCalled}
 use Rattle.call_claim.specs.Host.{Request, for-step, for-run, for-answer, for-state, for-count, HostCall, History}
 use Rattle.call_claim.specs.Seen.{accepted-of, accepted-steps, NoneLoses}

@@ -21,7 +21,7 @@ use Rattle.store_form.specs.State.{State, program-of, names-of, config-of}
 use Rattle.store_calls.specs.Outcomes.{held, put-state}
 use Rattle.store_calls.specs.Handed.{returned, written}
 use Rattle.store_calls.specs.Calls.{unless-short, run-meant}
-use Rattle.start_settle.specs.Settled.{working-bytes}
+use Rattle.store_lent.specs.Lent.{working-bytes}
 use Rattle.call_run.specs.Called.{run-number}
 use Rattle.call_answer.specs.Called.{answer-told}
 use Rattle.call_state.specs.Called.{state-told}

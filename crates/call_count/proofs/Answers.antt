@@ -22,7 +22,7 @@ use Rattle.store_form.specs.State.{State}
 use Rattle.store_form.specs.Form.{rules-words}
 use Rattle.store_calls.specs.Outcomes.{slices-short, held}
 use Rattle.store_room.proofs.Freshness.{formed-state}
-use Rattle.start_settle.specs.Settled.{working-bytes}
+use Rattle.store_lent.specs.Lent.{working-bytes}
 use Rattle.step_meant.specs.Deciding.{HoldsState}
 use Rattle.answer_boxes.specs.Asked.{MeantSome, CountIs}
 use Rattle.call_state.proofs.Answers.{config-meant}

@@ -10,7 +10,7 @@ use Rattle.akl.specs.Limits.{most-parts}
 use Rattle.akl.specs.Answers.{answers}
 use Rattle.store_form.specs.State.{State}
 use Rattle.store_calls.specs.Outcomes.{slices-short, held}
-use Rattle.start_settle.specs.Settled.{working-bytes}
+use Rattle.store_lent.specs.Lent.{working-bytes}
 
 -- The number of answers and the refusal in one number: refusals are below 256, so a multiple of 256 is no refusal. "Lowest number
 -- first": 8 "store or working slice shorter than the documented length", then 9 "store holds no well-formed program and

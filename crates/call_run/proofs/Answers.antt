@@ -19,7 +19,7 @@ use Rattle.store_calls.specs.Outcomes.{Called, called, held, run-done, run-read
 use Rattle.store_calls.specs.Handed.{returned, counted}
 use Rattle.store_calls.proofs.Any.{some-held}
 use Rattle.store_calls.proofs.Kept.{put-back}
-use Rattle.start_settle.specs.Settled.{working-bytes}
+use Rattle.store_lent.specs.Lent.{working-bytes}
 use Rattle.step_meant.specs.Deciding.{StepDone}
 use Rattle.call_step.proofs.Slices.{long-enough}
 use Rattle.call_run.specs.Called.{run-number, RunTo, CanRun}

@@ -18,7 +18,7 @@ use Rattle.store_steps.specs.After.{states-after}
 use Rattle.store_calls.specs.Outcomes.{Called, called, slices-short, run-done, run-read, run-outcome}
 use Rattle.store_calls.specs.Handed.{returned, counted}
 use Rattle.store_calls.proofs.Any.{short-first, none-held, text-first}
-use Rattle.start_settle.specs.Settled.{working-bytes}
+use Rattle.store_lent.specs.Lent.{working-bytes}
 use Rattle.check_store.specs.Store.{Formed}
 use Rattle.call_step.proofs.Slices.{store-short, working-short, long-enough, none-formed, some-formed}
 use Rattle.call_run.specs.Called.{run-number, RunTo, CanRun}

@@ -9,7 +9,7 @@ use Rattle.akl.specs.StepsText.{Step, read-steps}
 use Rattle.runs.specs.Outcomes.{Outcome}
 use Rattle.store_calls.specs.Outcomes.{run-outcome}
 use Rattle.store_calls.specs.Handed.{returned, counted}
-use Rattle.start_settle.specs.Settled.{working-bytes}
+use Rattle.store_lent.specs.Lent.{working-bytes}
 use Rattle.work_tables.specs.Tables.{Laid}
 use Rattle.step_meant.specs.Deciding.{HoldsState}
 

@@ -20,7 +20,7 @@ use Rattle.store_form.proofs.Lengths.{lengths}
 use Rattle.store_calls.specs.Outcomes.{Called, called, slices-short, held, on-held, on-state, state-outcome}
 use Rattle.store_calls.proofs.Any.{held-stands}
 use Rattle.store_views.proofs.Views.{held-begins, config-within, config-there}
-use Rattle.start_settle.specs.Settled.{working-bytes}
+use Rattle.store_lent.specs.Lent.{working-bytes}
 use Rattle.step_meant.specs.Meant.{Meant}
 use Rattle.step_meant.specs.Deciding.{HoldsState}
 use Rattle.answer_boxes.specs.Asked.{MeantSome, StateIs, state-number}

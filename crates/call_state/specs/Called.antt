@@ -6,7 +6,7 @@ use lib.ListN.{length, replicate}
 use Rattle.akl.specs.Limits.{most-parts}
 use Rattle.runs.specs.Outcomes.{Outcome, refusal, accepted, shown, stands}
 use Rattle.store_calls.specs.Outcomes.{state-outcome}
-use Rattle.start_settle.specs.Settled.{working-bytes}
+use Rattle.store_lent.specs.Lent.{working-bytes}
 use Rattle.answer_boxes.specs.Asked.{state-number}
 
 -- the state and the refusal in one number: refusals are below 256

@@ -12,7 +12,7 @@ use Rattle.store_steps.specs.After.{state-after}
 use Rattle.store_calls.specs.Outcomes.{Called, called, slices-short, step-done, step-outcome}
 use Rattle.store_calls.specs.Handed.{returned}
 use Rattle.store_calls.proofs.Any.{short-first, none-held, some-held}
-use Rattle.start_settle.specs.Settled.{working-bytes}
+use Rattle.store_lent.specs.Lent.{working-bytes}
 use Rattle.check_store.specs.Store.{Formed}
 use Rattle.step_meant.specs.Deciding.{outcome-of, StepDone, HoldsState}
 use Rattle.call_step.specs.Called.{StepTo}

@@ -14,7 +14,7 @@ use Rattle.store_form.specs.Sizes.{store-length}
 use Rattle.store_form.specs.State.{State}
 use Rattle.store_form.proofs.Lengths.{lengths}
 use Rattle.store_calls.specs.Outcomes.{slices-short, held}
-use Rattle.start_settle.specs.Settled.{working-bytes}
+use Rattle.store_lent.specs.Lent.{working-bytes}
 use Rattle.check_store.specs.Store.{Formed}
 use Rattle.step_meant.specs.Deciding.{HoldsState}
 

@@ -7,7 +7,7 @@ use Rattle.akl.specs.Limits.{most-parts}
 use Rattle.akl.specs.StepsText.{Step}
 use Rattle.store_calls.specs.Outcomes.{step-outcome}
 use Rattle.store_calls.specs.Handed.{returned}
-use Rattle.start_settle.specs.Settled.{working-bytes}
+use Rattle.store_lent.specs.Lent.{working-bytes}
 
 -- b is the store's slice before the step and b′ after it, w the length of the working slice, x what is handed back
 pub record StepTo (b : List ℕ) (w : ℕ) (k : Step) (b′ : List ℕ) (x : ℕ) : Type 0 where

@@ -12,7 +12,7 @@ use Rattle.akl.specs.Limits.{most-parts}
 use Rattle.store_form.specs.Sizes.{store-length}
 use Rattle.store_form.proofs.Lengths.{lengths}
 use Rattle.store_calls.specs.Outcomes.{slices-short, held}
-use Rattle.start_settle.specs.Settled.{working-bytes}
+use Rattle.store_lent.specs.Lent.{working-bytes}
 use Rattle.check_store.specs.Store.{Formed}
 use Rattle.check_call.specs.Refused.{check-of, check-refusal}
 

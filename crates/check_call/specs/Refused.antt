@@ -8,7 +8,7 @@ use lib.ListN.{length, replicate}
 use Rattle.akl.specs.Base.{is-some}
 use Rattle.akl.specs.Limits.{most-parts}
 use Rattle.store_calls.specs.Outcomes.{slices-short, held}
-use Rattle.start_settle.specs.Settled.{working-bytes}
+use Rattle.store_lent.specs.Lent.{working-bytes}
 
 -- "8: store or working slice shorter than the documented length", before "9: store holds no well-formed program and configuration"
 abbrev pub check-of : Bool → Bool → ℕ

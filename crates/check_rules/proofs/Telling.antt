@@ -17,7 +17,7 @@ use Rattle.mem_words.specs.Form.{Bytes, AllSmall}
 use Rattle.layout.specs.Layout.{program-words}
 use Rattle.store_form.specs.State.{number-in}
 use Rattle.store_pieces.proofs.Numbers.{ByteList, all-bytes}
-use Rattle.store_loaded.proofs.Loaded.{words-small}
+use Rattle.store_pieces.proofs.Small.{words-small}
 use Rattle.check_nodetables.specs.Tables as nodes
 use Rattle.check_names.specs.Names.{NamesStand, Told, Touched}
 use Rattle.check_namekinds.specs.Kinds.{KindsTo}

@@ -18,7 +18,7 @@ use Rattle.store_form.specs.State.{State, names-of}
 use Rattle.runs.specs.Outcomes.{stands}
 use Rattle.store_calls.specs.Outcomes.{Called, called, slices-short, held, on-held, on-state, answer-done, answer-outcome, state-outcome}
 use Rattle.store_calls.specs.Handed.{written}
-use Rattle.start_settle.specs.Settled.{working-bytes}
+use Rattle.store_lent.specs.Lent.{working-bytes}
 use Rattle.answer_boxes.specs.Asked.{state-number}
 use Rattle.call_answer.specs.Called.{answer-told, AnswerTo}
 use Rattle.call_state.specs.Called.{state-told, StateTo}

@@ -16,7 +16,7 @@ use Rattle.akl.specs.Answers.{failed, final, open-state, state-text}
 use Rattle.akl.specs.Record.{two-lines}
 use Rattle.store_form.specs.State.{State}
 use Rattle.store_calls.specs.Outcomes.{slices-short, held}
-use Rattle.start_settle.specs.Settled.{working-bytes}
+use Rattle.store_lent.specs.Lent.{working-bytes}
 use Rattle.answer_boxes.specs.Asked.{state-number}
 use Rattle.answer_emit.specs.Put.{put, Put, put-then, put-as, put-nothing}
 use Rattle.answer_emit.proofs.Ways.{put-wet}

@@ -15,7 +15,7 @@ use Rattle.akl.specs.Record.{answer-line}
 use Rattle.mem_parts.specs.Parts.{cut}
 use Rattle.store_form.specs.State.{State, names-of}
 use Rattle.store_calls.specs.Outcomes.{slices-short, held}
-use Rattle.start_settle.specs.Settled.{working-bytes}
+use Rattle.store_lent.specs.Lent.{working-bytes}
 use Rattle.answer_emit.specs.Put.{Put}
 use Rattle.call_answer.specs.Called.{AnswerTo}
 

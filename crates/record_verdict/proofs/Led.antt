@@ -23,7 +23,7 @@ use Rattle.store_calls.specs.Handed.{returned, counted}
 use Rattle.store_calls.proofs.Any.{some-held}
 use Rattle.store_calls.proofs.OnBytes.{begin-long, begin-held}
 use Rattle.store_calls.proofs.Demand3.{begins-stands}
-use Rattle.start_settle.specs.Settled.{working-bytes}
+use Rattle.store_lent.specs.Lent.{working-bytes}
 use Rattle.start_outcome.specs.Outcome.{Started}
 use Rattle.call_run.specs.Called.{run-number, RunTo}
 use Rattle.record_verdict.specs.Judged.{RanTo}

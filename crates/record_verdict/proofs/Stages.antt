@@ -13,7 +13,7 @@ use Rattle.akl.specs.Step.{steps}
 use Rattle.akl.specs.Limits.{most-parts}
 use Rattle.akl.specs.Record.{start, Checked, checked-run}
 use Rattle.store_calls.specs.Outcomes.{slices-short}
-use Rattle.start_settle.specs.Settled.{working-bytes}
+use Rattle.store_lent.specs.Lent.{working-bytes}
 use Rattle.start_outcome.specs.Outcome.{limits-refusal, slices-refusal, query-refusal, program-refusal, start-refusal}
 use Rattle.record_verdict.proofs.Texts.{Between, program-between, query-between, start-between}
 

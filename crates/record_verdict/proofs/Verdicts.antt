@@ -17,7 +17,7 @@ use Rattle.refusals.specs.Refusals.{numberOf}
 use Rattle.read_steps.specs.declared.Checked.the-variants as text
 use Rattle.read_steps.specs.Lines as lines
 use Rattle.store_calls.specs.Outcomes.{slices-short}
-use Rattle.start_settle.specs.Settled.{working-bytes}
+use Rattle.store_lent.specs.Lent.{working-bytes}
 use Rattle.start_outcome.specs.Outcome.{slices-refusal, StartTo, StoreAfter, Started}
 use Rattle.call_run.specs.Called.{RunTo}
 use Rattle.call_run.proofs.Text.{not-both}

@@ -16,7 +16,7 @@ use Rattle.akl.specs.StepsText.{Step, read-steps}
 use Rattle.akl.specs.Record.{Checked, checked-run}
 use Rattle.store_form.specs.State.{State, names-of, config-of}
 use Rattle.store_calls.specs.Outcomes.{slices-short, held}
-use Rattle.start_settle.specs.Settled.{working-bytes}
+use Rattle.store_lent.specs.Lent.{working-bytes}
 use Rattle.record_verdict.specs.declared.Verdict.{Verdict}
 use Rattle.record_verdict.specs.declared.Verdict.the-variants.{Refused, Ran, Short}
 

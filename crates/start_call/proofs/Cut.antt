@@ -19,7 +19,7 @@ use Rattle.texts.specs.Readable.{query-of}
 use Rattle.texts.proofs.Reading.{read-query-is}
 use Rattle.store_words.proofs.Sizes.{size-length}
 use Rattle.store_calls.specs.Outcomes.{slices-short}
-use Rattle.start_settle.specs.Settled.{working-bytes}
+use Rattle.store_lent.specs.Lent.{working-bytes}
 use Rattle.start_outcome.specs.Outcome.{query-refusal, program-refusal, start-refusal, Started, StoreAfter, StartTo}
 use Rattle.start_outcome.proofs.Settling.{program-refused}
 

@@ -24,7 +24,8 @@ use Rattle.store_start.proofs.Starting.{start-names, start-fits}
 use Rattle.store_calls.specs.Outcomes.{slices-short}
 use Rattle.store_pieces.proofs.Numbers.{ByteList}
 use Rattle.start_fill.specs.Filled.{store-is}
-use Rattle.start_settle.specs.Settled.{store-bytes-lent, working-bytes, first-parts, Settled, store-short, working-short, too-many, written}
+use Rattle.store_lent.specs.Lent.{store-bytes-lent, working-bytes}
+use Rattle.start_settle.specs.Settled.{first-parts, Settled, store-short, working-short, too-many, written}
 use Rattle.start_outcome.specs.Outcome.{limits-refusal, slices-refusal, query-refusal, program-refusal, start-refusal, Started, StoreAfter, StartTo}
 use Rattle.start_outcome.proofs.Stored.{started, left, variables-many, few-variables, parts-are, start-fitting, store-put}
 

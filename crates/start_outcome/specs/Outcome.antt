@@ -15,7 +15,7 @@ use Rattle.akl.specs.Record.{start}
 use Rattle.store_form.specs.State.{State}
 use Rattle.store_calls.specs.Outcomes.{slices-short, put-state}
 use Rattle.store_calls.specs.OnBytes.{Begins}
-use Rattle.start_settle.specs.Settled.{working-bytes}
+use Rattle.store_lent.specs.Lent.{working-bytes}
 
 -- 15: "new or starting configuration over 2,048 parts"; 0 where nothing is refused
 abbrev pub limits-refusal : Result Config → ℕ

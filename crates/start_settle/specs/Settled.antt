@@ -11,14 +11,8 @@ use Rattle.mem_words.specs.Form.{NoBad}
 use Rattle.store_parts.specs.declared.Among.the-variants.{Others}
 use Rattle.store_parts.specs.Counting.{parts-in}
 use Rattle.store_pieces.proofs.Words.{words-prefix}
+use Rattle.store_lent.specs.Lent.{store-bytes-lent, working-bytes}
 use Rattle.start_lay.specs.Laid.{LaidOut}
-
--- the documented lengths of the store and of the working slice
-abbrev pub store-bytes-lent : ℕ
-store-bytes-lent = 270429
-
-abbrev pub working-bytes : ℕ
-working-bytes = 524288
 
 -- the parts of the first configuration: the or-box, the and-box, its variables, its statement
 unfoldable pub first-parts : ℕ → List Word → ℕ

@@ -12,9 +12,8 @@ use Rattle.akl.specs.Syntax.{Program}
 use Rattle.akl.specs.Reader.{Query}
 use Rattle.akl.specs.Configuration.{Config}
 use Rattle.akl.specs.Record.{start}
-use Rattle.mem_numbers.specs.Chunks.{chunks}
 use Rattle.mem_words.specs.declared.Word.{Word}
-use Rattle.mem_words.specs.Words.{words, word, readWord, word-small, Small}
+use Rattle.mem_words.specs.Words.{words}
 use Rattle.mem_words.specs.Form.{Bytes, AllSmall}
 use Rattle.read_pieces.specs.Reads.{Spelling}
 use Rattle.read_inputs.specs.Inputs.{Loaded}
@@ -22,36 +21,12 @@ use Rattle.store_form.specs.Sizes.{most-nodes}
 use Rattle.store_form.specs.State.{State, names-of, well-formed-state}
 use Rattle.store_form.specs.Form.{rules-words, config-words}
 use Rattle.store_form.specs.Holding.{below, Fits}
+use Rattle.store_pieces.proofs.Small.{words-small}
 use Rattle.store_start.specs.Start.{Left, start-state, start-words}
 use Rattle.store_start.proofs.Starting.{start-names, start-rules, start-goals, start-fits, start-means, start-well-formed}
 
 -- ---------------------------------------------------------------------------------------------
--- Words of bytes have values of two bytes.
-
-bytes-take : (n : ℕ) (l : List ℕ) → Bytes l → Bytes (take n l)
-bytes-take zero l h = tt
-bytes-take (suc n) [] h = tt
-bytes-take (suc n) (x ∷ l) h = (h .0, bytes-take n l (h .1))
-
-bytes-drop : (n : ℕ) (l : List ℕ) → Bytes l → Bytes (drop n l)
-bytes-drop zero l h = h
-bytes-drop (suc n) [] h = tt
-bytes-drop (suc n) (x ∷ l) h = bytes-drop n l (h .1)
-
-piece-small : (l : List ℕ) → Bytes l → Small (readWord (take 3 l))
-piece-small [] h = record { value = omega arith }
-piece-small (k ∷ []) h = word-small k 0 (omega arith)
-piece-small (k ∷ (x ∷ [])) h = let a = h .1 .0 in word-small k (x + 0 * 256) (omega (arith, a))
-piece-small (k ∷ (x ∷ (y ∷ l))) h = let a = h .1 .0 in let b = h .1 .1 .0 in word-small k (x + (y + 0 * 256) * 256) (omega (arith, a, b))
-
-pieces-small : (n : ℕ) (l : List ℕ) → Bytes l → AllSmall (map readWord (chunks n 3 l))
-unfolding chunks
-pieces-small zero l h = tt
-pieces-small (suc n) l h = (piece-small l h, pieces-small n (drop 3 l) (bytes-drop 3 l h))
-
-pub words-small : (l : List ℕ) → Bytes l → AllSmall (words l)
-unfolding words
-words-small l h = pieces-small (length l / 3) l h
+-- Words of bytes have values of two bytes, and so do the first of them.
 
 take-small : (n : ℕ) (W : List Word) → AllSmall W → AllSmall (take n W)
 take-small zero W h = tt

@@ -1,0 +1,1 @@
+// No code: the lengths of the slices that a call is lent.
