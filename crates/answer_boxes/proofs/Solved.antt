@@ -28,7 +28,7 @@ use Rattle.store_room.proofs.Answered.{sat-state}
 use Rattle.store_room.proofs.Placed.{room-box}
 use Rattle.store_room.proofs.Drawing.{roomy-stores}
 use Rattle.step_meant.specs.Meant.{Meant, StandsAt}
-use Rattle.step_stable.proofs.Whole.{whole-is}
+use Rattle.step_meant.proofs.Whole.{whole-is}
 use Rattle.answer_boxes.specs.Asked.{GoalAt, AnswerAt}
 use Rattle.answer_boxes.proofs.Walk.{clash}
 

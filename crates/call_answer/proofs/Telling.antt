@@ -64,7 +64,7 @@ use Rattle.work_marks.proofs.Standing.{stand-here}
 use Rattle.work_walk.specs.Pushes.{longer}
 use Rattle.work_enter.specs.Enters.{At, CanEnter, Deeper, Hopeless, Lacking, Entered}
 use Rattle.step_meant.specs.Meant.{Meant, StandsAt}
-use Rattle.step_stable.proofs.Whole.{whole-is}
+use Rattle.step_meant.proofs.Whole.{whole-is}
 use Rattle.answer_boxes.specs.Asked.{AnswerStands}
 use Rattle.answer_turn.specs.Turning.{term-in, Shown}
 use Rattle.answer_print.proofs.Whole.{answer-line}

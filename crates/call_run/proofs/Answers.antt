@@ -21,7 +21,7 @@ use Rattle.store_calls.proofs.Any.{some-held}
 use Rattle.store_calls.proofs.Kept.{put-back}
 use Rattle.store_lent.specs.Lent.{working-bytes}
 use Rattle.step_meant.specs.Deciding.{StepDone}
-use Rattle.call_step.proofs.Slices.{long-enough}
+use Rattle.call_slices.proofs.Slices.{long-enough}
 use Rattle.call_run.specs.Called.{run-number, RunTo, CanRun}
 use Rattle.call_run.proofs.Text.{Left, all-left, none-left, next-left}
 use Rattle.call_run.proofs.Steps.{step-accepted, step-refused, done-small, after-held, done-again, first-refused, first-accepted}

@@ -16,7 +16,7 @@ use Rattle.store_lent.specs.Lent.{working-bytes}
 use Rattle.check_store.specs.Store.{Formed}
 use Rattle.step_meant.specs.Deciding.{outcome-of, StepDone, HoldsState}
 use Rattle.call_step.specs.Called.{StepTo}
-use Rattle.call_step.proofs.Slices.{store-short, working-short, long-enough, none-formed}
+use Rattle.call_slices.proofs.Slices.{store-short, working-short, long-enough, none-formed}
 
 -- the number of what a step hands back
 pub returns-number : (x : ℕ) → returned (outcome-of x) ≡ x

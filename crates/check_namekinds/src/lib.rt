@@ -1,5 +1,4 @@
 // Kinds of names: for each node of a table of names one byte, 1 for a constructor's name, 2 for a predicate's, 4 for a variable's, added.
-ghost use Prim.Native.Nat.{_<_};
 ghost use lib.ListN.{length};
 ghost use Rattle.mem_numbers.specs.Numbers.{triples};
 ghost use Rattle.work_tables.specs.Tables.{Laid};

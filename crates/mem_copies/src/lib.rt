@@ -1,8 +1,7 @@
-// Copies of runs of words, as they are or opened.
+// Runs of bytes and of words copied; a word opened.
 ghost use lib.ListN.{drop};
 ghost use Rattle.mem_words.specs.Words.{words};
 ghost use Rattle.mem_copies.specs.Runs.{run, CanCopy, Copied};
-ghost use Rattle.mem_words.specs.declared.Word.the-variants.{Bad};
 ghost use Rattle.mem_copies.specs.Open.{Opened, CanOpen};
 use mem_words::Word;
 

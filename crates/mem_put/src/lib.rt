@@ -1,6 +1,6 @@
 // A word written.
 ghost use Rattle.mem_numbers.specs.Stored.{Stored};
-ghost use Rattle.mem_words.specs.Words.{words, word, CanWrite};
+ghost use Rattle.mem_words.specs.Words.{words, CanWrite};
 use mem_words::Word;
 
 // Writes `w` as the word at `i`.

@@ -2,7 +2,7 @@
 ghost use mathlib.Core.Path.{_≡_};
 ghost use Prim.Native.Nat.{_<_};
 ghost use Rattle.mem_numbers.specs.Numbers.{Counted};
-ghost use Rattle.mem_words.specs.Words.{words, word, classOf, valueOf};
+ghost use Rattle.mem_words.specs.Words.{words, classOf, valueOf};
 use mem_sorts::Kind;
 use mem_sorts::Sort;
 

@@ -1,6 +1,5 @@
 // Simple statements that are no brackets, checked and written as words: constraint atoms and program atoms.
 ghost use mathlib.Core.Path.{_≡_};
-ghost use Prim.Native.Nat.{_+_, _<_};
 ghost use Rattle.mem_numbers.specs.Numbers.{shorts, triples};
 ghost use Rattle.mem_words.specs.Words.{words};
 ghost use Rattle.read_laid.specs.Shapes.{argumentsOf, CanConstraint, CanProgram};

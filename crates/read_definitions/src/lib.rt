@@ -1,4 +1,4 @@
-// The definitions of a program, one after another: each is checked and written as words.
+// One definition of a program, checked and written as words.
 ghost use Rattle.mem_numbers.specs.Numbers.{shorts, triples};
 ghost use Rattle.mem_words.specs.Words.{words};
 ghost use Rattle.read_phrases.specs.Codes.{Known};

@@ -1,6 +1,5 @@
 // The heads of a program's definitions: the number of the name * 256 + the parameters. All are known before a body is read, since
 // a program atom may stand before its definition.
-ghost use mathlib.Core.Path.{_≡_};
 ghost use Rattle.mem_numbers.specs.Numbers.{triples};
 ghost use Rattle.read_heads.specs.Heads.{CanHead, HeadTo, HeadedTo};
 use read_phrases::Phrase;

@@ -1,5 +1,4 @@
-// A whole text to a table of token codes. A code is the number of the token's kind + 256 * the number of its name, which
-// is 0 for a mark.
+// The code of a token: the number of its kind + 256 * the number of its name, which is 0 for a mark. A text is read as a table of codes.
 ghost use mathlib.Core.Path.{_≡_};
 ghost use Rattle.mem_numbers.specs.Numbers.{shorts, triples};
 ghost use Rattle.read_lexed.specs.Codes.{kindNo};

@@ -1,5 +1,5 @@
-// Phrases of a text in its table of tokens: lists of variables, arguments and hidden lists; what simple statements there are.
-// A token is a number of three bytes: its kind, and 256 times the number of its name.
+// Kinds and numbers of tokens in a text's table, and lists of variables; what simple statements there are. A token is a number of three
+// bytes: its kind, and 256 times the number of its name.
 ghost use mathlib.Core.Path.{_≡_};
 ghost use Rattle.mem_numbers.specs.Numbers.{triples};
 ghost use Rattle.read_phrases.specs.Codes.{kindAt, numberAt};

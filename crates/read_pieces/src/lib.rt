@@ -1,6 +1,4 @@
-// What reading a piece of a text leads to, and the words of brackets and clauses that stand around what is read inside them.
-ghost use Prim.Native.Nat.{_<_};
-ghost use Rattle.mem_words.specs.Words.{words};
+// What reading a piece of a text leads to, and the lower of two refusals.
 ghost use Rattle.read_pieces.specs.Worst.{Lower};
 
 // What reading a piece leads to: the position behind it, that behind its words, the number of query variables, and the

@@ -1,4 +1,4 @@
-// A program read from its bytes: its refusal, or the heads and the words of its definitions.
+// A program from its table of tokens: its refusal, or the heads and the words of its definitions.
 ghost use Rattle.akl.specs.Reader.{fault};
 ghost use Rattle.mem_numbers.specs.Numbers.{shorts, triples};
 ghost use Rattle.mem_words.specs.Words.{words};

@@ -1,5 +1,4 @@
 // A query read from its bytes: its refusal, or its variables by first free occurrence and the words of its statement.
-ghost use mathlib.Core.Path.{_≡_};
 ghost use Rattle.mem_numbers.specs.Numbers.{shorts, triples};
 ghost use Rattle.mem_words.specs.Words.{words};
 ghost use Rattle.read_queries.specs.Checks.{CanCheck, CheckedTo};

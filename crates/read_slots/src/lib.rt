@@ -1,5 +1,5 @@
-// Slots kept before what is in a bracket and before a clause.
-ghost use Prim.Native.Nat.{_+_, _<_};
+// Slots kept before what is in a bracket, and before a further clause.
+ghost use Prim.Native.Nat.{_<_};
 ghost use Rattle.mem_words.specs.Words.{words};
 ghost use Rattle.read_pieces.specs.Slots.{SlotsTo, ClauseTo};
 use mem_sorts::Sort;

@@ -1,4 +1,4 @@
-// Steps texts: a line for each step, of three decimal numbers below 2^32.
+// A number of a steps text, whose lines have three decimal numbers below 2^32 for each step.
 ghost use mathlib.Core.Path.{_≡_};
 ghost use Rattle.read_steps.specs.Numbers.{CanAdd, capped, Numbered};
 use refusals::Refusal;

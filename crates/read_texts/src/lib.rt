@@ -1,5 +1,4 @@
-// Whether bytes are a program text or a query text: short enough, and of the grammar. The table of their tokens is left for
-// whoever reads on.
+// Whether bytes are a query text: short enough, and of the grammar. The table of their tokens is left for whoever reads on.
 ghost use Rattle.mem_numbers.specs.Numbers.{shorts, triples};
 ghost use Rattle.akl.specs.Limits.{query-bytes};
 ghost use Rattle.akl.specs.Parse.{parse-query};

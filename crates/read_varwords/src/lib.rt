@@ -1,4 +1,4 @@
-// The words of variables: a level where the name is bound; else, in a query, its number.
+// The word of a variable: its level where the name is bound; else, in a query, its number.
 ghost use mathlib.Core.Path.{_≡_};
 ghost use mathlib.Core.List.{[], _∷_};
 ghost use Rattle.mem_numbers.specs.Numbers.{shorts};

@@ -1,6 +1,6 @@
 // Tests of what stands beside a guarded goal, and how many a choice-box has.
 ghost use mathlib.Core.Path.{_≡_};
-ghost use Prim.Native.Nat.{_+_, _≤_};
+ghost use Prim.Native.Nat.{_≤_};
 ghost use lib.ListN.{length};
 ghost use Rattle.mem_words.specs.Words.{words};
 ghost use Rattle.rule_effects.specs.Conditions.{right-at, left-at, one-at, more-at};

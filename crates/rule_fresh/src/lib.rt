@@ -1,9 +1,9 @@
 // A range of lent words appended with its outermost levels opened to fresh variables.
 ghost use mathlib.Core.List.{map};
 ghost use Prim.Native.Nat.{_+_, _≤_};
-ghost use lib.ListN.{length, drop};
+ghost use lib.ListN.{drop};
 ghost use Rattle.mem_words.specs.Words.{words, Small};
-ghost use Rattle.mem_copies.specs.Runs.{run, Copied};
+ghost use Rattle.mem_copies.specs.Runs.{Copied};
 ghost use Rattle.mem_copies.specs.Open.{openWord, Opened};
 ghost use Rattle.rule_words.specs.Pieces.{cut};
 ghost use Rattle.rule_build.specs.Built.{Appended};

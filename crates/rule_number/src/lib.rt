@@ -3,7 +3,7 @@ ghost use mathlib.Core.Path.{_≡_};
 ghost use Prim.Native.Nat.{_<_};
 ghost use lib.ListN.{getD};
 ghost use Rattle.mem_words.specs.declared.Word.the-variants.{Bad};
-ghost use Rattle.mem_words.specs.Words.{words, Small};
+ghost use Rattle.mem_words.specs.Words.{words};
 ghost use Rattle.rule_effects.specs.Effects.{number-in};
 use mem_words::Word;
 

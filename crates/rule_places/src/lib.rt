@@ -4,7 +4,7 @@ ghost use Prim.Native.Nat.{_+_, _*_, _≤_};
 ghost use lib.ListN.{length};
 ghost use Rattle.mem_words.specs.Words.{words, word};
 ghost use Rattle.store_words.specs.Contexts.{place-at};
-ghost use Rattle.mem_tallies.specs.Tallies.{firsts, if-first, Tallied};
+ghost use Rattle.mem_tallies.specs.Tallies.{if-first, Tallied};
 ghost use Rattle.rule_places.specs.Finding.{begins, hits, passed};
 ghost use Rattle.rule_places.specs.Pieces.{place-one, InPiece, AheadOf};
 use mem_words::Word;

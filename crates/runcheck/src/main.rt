@@ -2,7 +2,6 @@
 // record of the run. What is written is made by proved functions (record_verdict, record_lines); here it is only written, in order.
 // Everything lies on the stack.
 ghost use mathlib.Core.Path.{_≡_};
-ghost use Prim.Native.Nat.{_≤_};
 ghost use lib.ListN.{length};
 ghost use Rattle.io.specs.Counts.{Counts};
 use libc::STDOUT_FILENO;

@@ -2,10 +2,10 @@
 use mem_sorts::Kind;
 use mem_sorts::Sort;
 use mem_words::Word;
-ghost use Prim.Native.Nat.{_+_, _≤_};
+ghost use Prim.Native.Nat.{_+_};
 ghost use mathlib.Core.List.{[], _∷_};
-ghost use lib.ListN.{length, take};
-ghost use Rattle.mem_words.specs.Words.{words, Small};
+ghost use lib.ListN.{take};
+ghost use Rattle.mem_words.specs.Words.{words};
 ghost use Rattle.start_config.specs.Grown.{Grown, frees, first-words};
 ghost use Rattle.start_config.specs.Bounds.{CanThree, CanFrees, CanFirst};
 

@@ -1,5 +1,4 @@
 // The start of a query whose texts are read: 8 where a slice is too short, 15 where it has too many parts, else the store is written.
-ghost use mathlib.Core.Path.{_≡_};
 ghost use lib.ListN.{take};
 ghost use Rattle.mem_numbers.specs.Numbers.{shorts};
 ghost use Rattle.mem_words.specs.Words.{words};

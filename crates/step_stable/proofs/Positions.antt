@@ -24,7 +24,7 @@ use Rattle.rule_holds.proofs.Inside.{inside-words}
 use Rattle.step_meant.specs.Meant.{StandsAt}
 use Rattle.step_stable.proofs.Tests.{nth-below}
 use Rattle.step_stable.proofs.Here.{here-there, there-here}
-use Rattle.step_stable.proofs.Whole.{whole-is}
+use Rattle.step_meant.proofs.Whole.{whole-is}
 
 within-T : (W : List Word) (g j : ℕ) → T (within-at W g j) → (g ≤ j) × (j < behind W g)
 unfolding within-at

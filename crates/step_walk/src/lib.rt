@@ -1,5 +1,4 @@
 // The and-boxes of a goal tested in one walk over its words: their stores are told and taken back as the boxes are entered and left.
-ghost use Prim.Native.Nat.{_+_};
 ghost use Rattle.mem_words.specs.Words.{words};
 ghost use Rattle.work_tables.specs.Tables.{Laid};
 ghost use Rattle.step_turn.specs.Stood.{CanWalk, Stood};

@@ -1,6 +1,5 @@
 // Classes of variables in one working slice: the contracts are stated by `solve_classes`, at the tables of the slice.
-ghost use mathlib.Core.Path.{_≡_};
-ghost use Prim.Native.Nat.{_≤_, _<_};
+ghost use Prim.Native.Nat.{_≤_};
 ghost use lib.ListN.{length};
 ghost use Rattle.mem_numbers.specs.Numbers.{triples};
 ghost use Rattle.solve_classes.specs.Means.{Order, CanHang, CanJoin};

@@ -1,10 +1,10 @@
 // The solver's own copy of what is told: words of the store are appended to the log of the working slice, and three words that
 // end every constraint begun there.
 ghost use Prim.Native.Nat.{_≤_};
-ghost use lib.ListN.{length, drop};
+ghost use lib.ListN.{length};
 ghost use Rattle.mem_words.specs.Words.{words};
-ghost use Rattle.mem_copies.specs.Runs.{CanCopy, Copied};
-ghost use Rattle.mem_parts.specs.Parts.{cut, Outside};
+ghost use Rattle.mem_copies.specs.Runs.{CanCopy};
+ghost use Rattle.mem_parts.specs.Parts.{cut};
 ghost use Rattle.work_log.specs.Logs.{CopiedIn, CanAppend, Appended};
 
 // Copies the `n` words of `t` from `from` on to the part.

@@ -2,7 +2,7 @@
 use mathlib.Core.Path.{_∙_}
 use native.Mathlib.Omega.{arith}
 use lib.ListN.{length}
-use Rattle.call_step.proofs.Slices.{store-short, working-short, long-enough, none-formed, some-formed}
+use Rattle.call_slices.proofs.Slices.{store-short, working-short, long-enough, none-formed, some-formed}
 use Rattle.call_answer.proofs.Outcomes.{to-8, to-9, to-answer}
 use borrow.Author.Needs.{needs}
 use Rattle.call_answer.proofs.asked.Statement.{statement}

@@ -3,7 +3,7 @@ use native.Mathlib.Omega.{arith}
 use mathlib.Core.Path.{refl, _∙_}
 use lib.ListN.{length}
 use Rattle.step_meant.specs.Deciding.{step-of}
-use Rattle.call_step.proofs.Slices.{some-formed}
+use Rattle.call_slices.proofs.Slices.{some-formed}
 use Rattle.call_step.proofs.Answers.{short-store, short-working, not-held, done}
 use borrow.Author.Needs.{needs}
 use Rattle.call_step.proofs.judged.Statement.{statement}
