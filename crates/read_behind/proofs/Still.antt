@@ -77,3 +77,24 @@ module _ {text query : List ℕ} (c h u o g : List ℕ) {d a v k m : ℕ} (read 
           rules-words = λ num s. words-first u u′ a (z .rules .long) (loaded-counted .rules) (z .rules .before) ∙ read .rules-words num (spelled num s);
           goal-words = λ num s. words-first g g′ k (z .goal .long) (loaded-counted .goal) (z .goal .before) ∙ read .goal-words num (spelled num s);
         }
+
+-- the answer of reading, and the outputs by the bytes that were lent, c₀ to g₀
+module _ {text query N D : List ℕ} {R : List Word} {Q : List ℕ} {G : List Word} {K H S T B Z c h u o g : List ℕ} {d a v k m : ℕ} where
+  pub inputs-counted : InputsTo text query N D R Q G K H S T B Z (triples c) (triples h) (words u) (shorts o) (words g) (Read d a v k m) → Counted d a v k m c h u o g
+  inputs-counted x = loaded-counted c h u o g (x .answer)
+
+  pub inputs-still : {c′ h′ u′ o′ g′ : List ℕ} → InputsTo text query N D R Q G K H S T B Z (triples c) (triples h) (words u) (shorts o) (words g) (Read d a v k m) → AllBehind d a v k m c c′ h h′ u u′ o o′ g g′ → InputsTo text query N D R Q G K H S T B Z (triples c′) (triples h′) (words u′) (shorts o′) (words g′) (Read d a v k m)
+  inputs-still {c′} {h′} {u′} {o′} {g′} x z = record { answer = loaded-still c h u o g (x .answer) c′ h′ u′ o′ g′ z }
+
+zeros-long : (n : ℕ) (b₀ b b′ : List ℕ) → length b ≡ length b₀ → Behind n b b′ → drop n b′ ≡ replicate (length b₀ - n) 0
+zeros-long n b₀ b b′ e z = z .zeros ∙ ap (λ (j : ℕ). replicate (j - n) 0) e
+
+pub outputs-read : (c₀ h₀ u₀ o₀ g₀ : List ℕ) {c h u o g c′ h′ u′ o′ g′ : List ℕ} (d a v k m : ℕ) → length c ≡ length c₀ → length h ≡ length h₀ → length u ≡ length u₀ → length o ≡ length o₀ → length g ≡ length g₀ → AllBehind d a v k m c c′ h h′ u u′ o o′ g g′ → Outputs (Read d a v k m) c₀ c′ h₀ h′ u₀ u′ o₀ o′ g₀ g′
+outputs-read c₀ h₀ u₀ o₀ g₀ {c} {h} {u} {o} {g} {c′} {h′} {u′} {o′} {g′} d a v k m ec eh eu eo eg z =
+    record {
+      cells = zeros-long (3 * m) c₀ c c′ ec (z .cells);
+      heads = zeros-long (3 * d) h₀ h h′ eh (z .heads);
+      rules = zeros-long (3 * a) u₀ u u′ eu (z .rules);
+      order = zeros-long (2 * v) o₀ o o′ eo (z .order);
+      goal = zeros-long (3 * k) g₀ g g′ eg (z .goal);
+    }
