@@ -1,12 +1,11 @@
 -- The first numbers and words of a list of bytes are told by its first bytes. Assumes nothing.
 use mathlib.Core.Path.{_≡_, refl, ap, ap₂, sym, _∙_}
 use mathlib.Core.List.{List}
-use Prim.Native.Nat.{ℕ, zero, suc, _+_, _*_, _/_, _<_, _≤_}
+use Prim.Native.Nat.{ℕ, zero, suc, _+_, _*_, _<_, _≤_}
 use native.Mathlib.Omega.{arith}
 use lib.ListN.{length, getD, take}
 use lib.Seq.{ext-getD, getD-take, length-take-le}
 use Rattle.mem_numbers.specs.Numbers.{valueAt, shorts, triples, length-shorts, length-triples, getD-shorts, getD-triples}
-use Rattle.mem_words.specs.declared.Word.{Word}
 use Rattle.mem_words.specs.declared.Word.the-variants.{Bad}
 use Rattle.mem_words.specs.Words.{words, word, length-words, getD-words}
 

@@ -10,8 +10,8 @@ pub record Behind (n : ℕ) (b b′ : List ℕ) : Type 0 where
   pub zeros : drop n b′ ≡ replicate (length b - n) 0
   pub long : length b′ ≡ length b
 
--- the reader's outputs hold m cells c, d heads h, a words u of the program, v variables o and k words g of the query
-pub record Counted (d a v k m : ℕ) (c h u o g : List ℕ) : Type 0 where
+-- there is room in the reader's outputs for m cells c, d heads h, a words u of the program, v variables o and k words g of the query
+pub record Within (d a v k m : ℕ) (c h u o g : List ℕ) : Type 0 where
   pub cells : 3 * m ≤ length c
   pub heads : 3 * d ≤ length h
   pub rules : 3 * a ≤ length u

@@ -1,7 +1,7 @@
 // What stands behind the counts in the reader's outputs made zero.
 ghost use Prim.Native.Nat.{_≤_};
 ghost use lib.ListN.{length};
-ghost use Rattle.read_behind.specs.Behind.{Behind, Counted, AllBehind};
+ghost use Rattle.read_behind.specs.Behind.{Behind, Within, AllBehind};
 
 // Makes zero what stands behind the first `n` bytes.
 fn zero_from(b: &mut [u8], n: usize)
@@ -25,7 +25,7 @@ pub fn clear_behind(
     k: usize,
     m: usize,
 )
-    requires { ⌜ Counted d a v k m (now cells) (now heads) (now rules) (now order) (now goal) ⌝ }
+    requires { ⌜ Within d a v k m (now cells) (now heads) (now rules) (now order) (now goal) ⌝ }
     ensures { λ _. ⌜ AllBehind d a v k m (now (cells .entry)) (now (cells .exit)) (now (heads .entry)) (now (heads .exit)) (now (rules .entry)) (now (rules .exit)) (now (order .entry)) (now (order .exit)) (now (goal .entry)) (now (goal .exit)) ⌝ }
 {
     zero_from(cells, 3 * m);

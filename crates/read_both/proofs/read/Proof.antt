@@ -2,7 +2,7 @@
 use native.Mathlib.Omega.{arith}
 use mathlib.Core.Path.{_≡_, refl, sym, _∙_}
 use Rattle.read_inputs.proofs.Loading.{told, refused-still, short-still, zero-again}
-use Rattle.read_behind.proofs.Still.{inputs-counted, inputs-still, outputs-read}
+use Rattle.read_behind.proofs.Still.{inputs-within, inputs-still, outputs-read}
 use borrow.Author.Needs.{needs}
 use Rattle.read_both.proofs.read.Statement.{statement}
 use Rattle.read_both.proofs.read.Tie as tie
@@ -15,7 +15,7 @@ enum-known-r c = search needs
 
 clear-behind-requires : tie.Need-clear-behind-requires
 clear-behind-requires c κs =
-    let q = inputs-counted (told (c .before .before .before .before .before .before .r .given .1) (c .before .before .before .before .before .before .before .before .before .before .before .before .before .before .before .before .before .before .before .before .before .before .before .before .before .before .before .before .before .before .load .ensures)) in
+    let q = inputs-within (told (c .before .before .before .before .before .before .r .given .1) (c .before .before .before .before .before .before .before .before .before .before .before .before .before .before .before .before .before .before .before .before .before .before .before .before .before .before .before .before .before .before .load .ensures)) in
     record { cells = omega (arith, q .cells); heads = omega (arith, q .heads); rules = omega (arith, q .rules); order = omega (arith, q .order); goal = omega (arith, q .goal) }
 
 enum-known-r-2 : tie.Need-enum-known-r-2
