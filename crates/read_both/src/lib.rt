@@ -6,7 +6,7 @@ use read_programs::Programmed;
 use read_queries::Queried;
 use read_inputs::Inputs;
 
-// As `read`, but for what is left where there is a refusal.
+// As `read`, but for what is left behind the counts, and where there is a refusal.
 fn load(
     program: &[u8],
     query: &[u8],
@@ -84,8 +84,8 @@ fn load(
 }
 
 // Reads the program and then the query. Names are left in `cells`, as a trie; the definitions' heads in `heads` and their words
-// in `rules`; the names of the query's variables in `order`, and its words in `goal`. These are zero where there is a refusal.
-// Every other slice is working room.
+// in `rules`; the names of the query's variables in `order`, and its words in `goal`. These are zero behind what is counted, and all
+// zero where there is a refusal or a table is too short. Every other slice is working room.
 pub fn read(
     program: &[u8],
     query: &[u8],
@@ -125,13 +125,27 @@ pub fn read(
             variables,
             goal: b,
             names,
-        } => Inputs::Read {
-            definitions,
-            rules: a,
-            variables,
-            goal: b,
-            names,
-        },
+        } => {
+            read_behind::clear_behind(
+                cells,
+                heads,
+                rules,
+                order,
+                goal,
+                definitions, // heads in use
+                a,
+                variables,
+                b,
+                names,
+            );
+            Inputs::Read {
+                definitions,
+                rules: a,
+                variables,
+                goal: b,
+                names,
+            }
+        }
         Inputs::Refused(x) => {
             read_inputs::clear(cells, heads, rules, order, goal);
             Inputs::Refused(x)

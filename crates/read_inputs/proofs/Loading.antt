@@ -136,6 +136,7 @@ module _ {text query N D : List ℕ} {R : List Word} {Q : List ℕ} {G : List Wo
                     root = omega (arith, q .answer .lexicon .nodes);
                     parents = q .answer .lexicon .trie .parents;
                     used = q .answer .used;
+                    numbers = λ c h. omega (arith, p .answer .numbers c h, q .answer .grown .more);
                     apart = λ j k h g e. one-number (q .answer .lexicon .trie) j k h g e;
                     heads = heads-same (take d D₂) (named N₃) (named N₂) (λ c h. named-kept (p .answer .lexicon .trie) (q .answer .grown) (c / 256) (p .answer .numbers c h)) ∙ p .answer .says .heads;
                     variables = y .2 .variables;

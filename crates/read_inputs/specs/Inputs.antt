@@ -4,8 +4,9 @@
 use mathlib.Core.Path.{_≡_}
 use mathlib.Core.Logic.{_⊎_}
 use mathlib.Core.List.{List, [], map}
-use Prim.Native.Nat.{ℕ, _+_, _*_, _/_, _≤_, _<_}
-use lib.ListN.{length, getD, take, replicate}
+use Prim.Native.Nat.{ℕ, _+_, _*_, _-_, _/_, _≤_, _<_}
+use lib.ListN.{length, getD, take, drop, replicate}
+use Rattle.constraint.specs.Constraint.{In}
 use Rattle.akl.specs.Base.{Name, refused, ok}
 use Rattle.akl.specs.Syntax.{Program}
 use Rattle.akl.specs.Reader.{Query, read-program, read-query}
@@ -29,8 +30,9 @@ pub record Loaded (text query N′ D′ : List ℕ) (R′ : List Word) (Q′ : L
   -- the names are a trie: there is a root, and a parent is lower
   pub root : 1 ≤ m
   pub parents : (i : ℕ) → 0 < i → i < m → getD N′ i 0 / 256 < i
-  -- the numbers of the query's variables are numbers of names
+  -- the numbers of the query's variables are numbers of names, and so are those in the heads
   pub used : (i : ℕ) → i < v → getD Q′ i 0 < m
+  pub numbers : (c : ℕ) → In c (take d D′) → c / 256 < m
   -- numbers of names below m and names are one-to-one
   pub apart : (i j : ℕ) → i < m → j < m → named N′ i ≡ named N′ j → i ≡ j
   pub heads : heads (named N′) (take d D′) ≡ map (λ d. (d .name, d .arity)) program
@@ -59,16 +61,18 @@ module _ (text query N D : List ℕ) (R : List Word) (Q : List ℕ) (G : List Wo
   pub record InputsTo (r : Inputs) : Type 0 where
     pub answer : Answer r
 
--- where there is a refusal, or a table is too short, an output's bytes b are zero
-abbrev pub Cleared : Inputs → List ℕ → List ℕ → Type 0
-Cleared (Read d a v k m) b b′ = Unit
-Cleared (Refused r) b b′ = b′ ≡ replicate (length b) 0
-Cleared Short b b′ = b′ ≡ replicate (length b) 0
+-- what is zero of an output's bytes b′: where both texts were read, those behind the n in use; where there is a refusal, or a table is
+-- too short, all
+abbrev pub Cleared : Inputs → (ℕ → ℕ → ℕ → ℕ → ℕ → ℕ) → List ℕ → List ℕ → Type 0
+Cleared (Read d a v k m) n b b′ = drop (n d a v k m) b′ ≡ replicate (length b - n d a v k m) 0
+Cleared (Refused r) n b b′ = b′ ≡ replicate (length b) 0
+Cleared Short n b b′ = b′ ≡ replicate (length b) 0
 
--- the outputs: cells of names, heads, words of the program, query variables, words of the query
+-- the outputs: cells of names, heads, words of the program, query variables, words of the query. In use are 3 bytes for each of the m
+-- cells, d heads, a words and k words that were counted, and 2 for each of the v variables
 pub record Outputs (r : Inputs) (c c′ h h′ u u′ o o′ g g′ : List ℕ) : Type 0 where
-  pub cells : Cleared r c c′
-  pub heads : Cleared r h h′
-  pub rules : Cleared r u u′
-  pub order : Cleared r o o′
-  pub goal : Cleared r g g′
+  pub cells : Cleared r (λ d a v k m. 3 * m) c c′
+  pub heads : Cleared r (λ d a v k m. 3 * d) h h′
+  pub rules : Cleared r (λ d a v k m. 3 * a) u u′
+  pub order : Cleared r (λ d a v k m. 2 * v) o o′
+  pub goal : Cleared r (λ d a v k m. 3 * k) g g′
