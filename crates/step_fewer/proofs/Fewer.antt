@@ -1,7 +1,7 @@
 -- A transition of a rule that is not one of those that can add parts leaves at most as many as there were. Assumes nothing.
-use mathlib.Core.Path.{_≡_, refl, ap, sym, _∙_}
-use mathlib.Core.Bool.{Bool, true, false}
-use mathlib.Core.List.{List, [], _++_}
+use mathlib.Core.Path.{_≡_, refl, ap}
+use mathlib.Core.Bool.{true, false}
+use mathlib.Core.List.{List}
 use mathlib.Core.Option.{some}
 use Prim.Native.Nat.{ℕ, zero, suc, _+_, _≤_}
 use native.Mathlib.Omega.{arith}
@@ -9,7 +9,7 @@ use lib.Dec.{T}
 use Rattle.constraint.specs.Constraint.{Con, ctrue, cfail, ceq, capp}
 use Rattle.akl.specs.Base.{size, range}
 use Rattle.akl.specs.Syntax.{Var, Stmt, atom, call, comp, hide, choice, Clauses, no-more, clause, Program, opened, opened-clauses}
-use Rattle.akl.specs.Configuration.{Kind, goal, Node, or, and, stmt, choice-box, guard, Nodes, nil, cons, _+n_, one, failure, Ctx, top, in-or, in-and, in-choice, in-guard, plug, Config}
+use Rattle.akl.specs.Configuration.{Kind, Node, or, and, stmt, choice-box, guard, Nodes, nil, cons, _+n_, one, failure, Ctx, top, in-or, in-and, in-choice, in-guard, plug, Config}
 use Rattle.akl.specs.Places.{Place}
 use Rattle.akl.specs.Table.{Row, rule-row}
 use Rattle.akl.specs.Rules.{stored, fresh, effect}

@@ -1,7 +1,5 @@
 -- Counted, or known. Assumes nothing.
 use mathlib.Core.Path.{sym}
-use native.Mathlib.Omega.{arith}
-use Prim.Native.Nat.{_*_}
 use lib.ListN.{take}
 use borrow.Author.Tests.{le-leb}
 use Rattle.akl.specs.Limits.{most-parts}
