@@ -1,7 +1,7 @@
 -- A step on bytes that hold a state, from what the functions on its words hand back: the refusals 10 to 13, 14 before anything is
 -- built, and what settling the built words leaves. Assumes nothing.
 use mathlib.Core.Path.{_≡_, refl, ap, sym, _∙_}
-use mathlib.Core.Bool.{Bool}
+use mathlib.Core.Bool.{Bool, false}
 use mathlib.Core.List.{List}
 use mathlib.Core.Option.{some}
 use Prim.Native.Nat.{ℕ, zero, suc, _+_, _*_, _<_, _≤_}
@@ -16,13 +16,15 @@ use Rattle.akl.specs.StepsText.{Step}
 use Rattle.akl.specs.Configuration.{Config}
 use Rattle.akl.specs.Parts.{parts}
 use Rattle.akl.specs.Step.{step, within-limits}
+use Rattle.theory.specs.Formed.{Formed}
+use Rattle.theory.proofs.Reflect.{formed-iff}
 use Rattle.accept.proofs.Accepted.{limits-iff}
 use Rattle.runs.specs.Outcomes.{refusal}
 use Rattle.mem_words.specs.declared.Word.{Word}
 use Rattle.mem_words.specs.Words.{words}
 use Rattle.mem_parts.specs.Parts.{cut}
 use Rattle.check_held.specs.Checks.{rules-in, words-in, next-in}
-use Rattle.store_form.specs.State.{State, program-of, config-of}
+use Rattle.store_form.specs.State.{State, program-of, names-of, config-of}
 use Rattle.store_form.specs.Form.{config-words}
 use Rattle.store_form.proofs.Keeping.{with-config}
 use Rattle.store_steps.specs.After.{state-after}
@@ -40,6 +42,9 @@ use Rattle.rule_hidden.specs.Counting.{Capped}
 use Rattle.rule_rewrite.specs.Rewriting.{effect-words, fresh-words}
 use Rattle.step_meant.specs.Meant.{Meant}
 use Rattle.step_meant.specs.Deciding.{Refuses, Goes, outcome-of, StepDone}
+use Rattle.step_fewer.specs.Adding.{adds-parts}
+use Rattle.step_fewer.proofs.Fewer.{effect-fewer}
+use Rattle.step_store.proofs.Whole.{place-is}
 use Rattle.step_store.proofs.Next.{next-is}
 
 -- what is read of a store: the words of its configuration and of its program, and its next fresh number
@@ -139,6 +144,15 @@ module _ (b : List ℕ) (W D : List Word) (next : ℕ) (v : Viewed b W D next) (
 
       parts-next : (s : State) (e : held most-parts b ≡ some s) → n ≤ 28672 → parts-in Others (take n (words S)) ≡ parts (g s (v .meant s e) .after .root)
       parts-next s e l = ap (parts-in Others) (room l .1 ∙ words-next s e) ∙ config-parts (then s e)
+
+      -- a rule that adds no parts leaves at most as many as the limit, which the state before it was within
+      pub fit-next : (s : State) → held most-parts b ≡ some s → adds-parts (k .rule) ≡ false → n ≤ 28672 → parts-in Others (take n (words S)) ≤ most-parts
+      fit-next s e a l =
+          let m = v .meant s e in
+          let R = g s m in
+          let h : Formed most-parts (program-of s) (names-of s) (config-of s) = formed-iff most-parts (program-of s) (names-of s) (config-of s) .0 (m .stands .formed) in
+          let q = effect-fewer (program-of s) (s .config .next) (k .rule) (R .at-place) (R .takes .row) (R .after) (R .takes .is-row) (R .takes .fits) (R .leads) a in
+          omega (arith, parts-next s e l, q, ap parts (place-is W D s m (R .at-place) i (R .takes .stands)), h .fit)
 
       -- more words than so few parts have
       parts-many : (s : State) (e : held most-parts b ≡ some s) → 28672 < n → most-parts < parts (g s (v .meant s e) .after .root)

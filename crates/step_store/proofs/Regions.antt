@@ -1,5 +1,6 @@
 -- The regions of a store that holds a state: they lie within it, and their words are those of the state. Assumes nothing.
 use mathlib.Core.Path.{_≡_, refl, ap, sym, _∙_, subst}
+use mathlib.Core.Bool.{Bool}
 use mathlib.Core.List.{List, [], _∷_}
 use mathlib.Core.Option.{Option, some, none}
 use Prim.Native.Nat.{ℕ, zero, suc, _+_, _-_, _*_, _<_, _≤_}
@@ -9,7 +10,9 @@ use Rattle.akl.specs.Base.{nth, size}
 use Rattle.akl.specs.Limits.{most-parts}
 use Rattle.akl.specs.Table.{Row, table, rule-row}
 use Rattle.check_held.specs.Checks.{rules-in, words-in, next-in}
-use Rattle.store_form.proofs.Lengths.{lengths}
+use Rattle.check_held.proofs.Back.{held-checks}
+use Rattle.check_zeros.specs.Zeros.{Zeros}
+use Rattle.store_form.proofs.Lengths.{starts, lengths}
 use Rattle.store_views.proofs.Views.{held-begins, program-within, config-within, next-told}
 use borrow.Rule.Slice.PartMut.{putMid}
 use Rattle.akl.specs.StepsText.{Step}
@@ -20,13 +23,14 @@ use Rattle.store_commit.specs.Settled.{CanSettle}
 use Rattle.rule_build.specs.Built.{Built}
 use Rattle.rule_hidden.specs.Counting.{Capped}
 use Rattle.rule_rewrite.specs.Rewriting.{effect-words, fresh-words}
+use Rattle.step_fewer.specs.Adding.{adds-parts}
 use Rattle.step_meant.specs.Deciding.{step-of, Refuses, Goes, HoldsState}
 use Rattle.step_decide.specs.Decided.{CanDecide, Decided}
 use Rattle.step_decide.specs.declared.Decision.{Decision}
 use Rattle.step_decide.specs.declared.Decision.the-variants.{No, At}
 use Rattle.step_decide.proofs.Places.{stands-within}
 use Rattle.step_store.specs.Regions.{config-part, program-part, Counts, CanRewrite, WasBuilt}
-use Rattle.step_store.proofs.Done.{Viewed, viewed, counted}
+use Rattle.step_store.proofs.Done.{Viewed, viewed, counted, fit-next}
 
 pub counts : (b : List ℕ) (n m : ℕ) → 270429 ≤ length b → HoldsState b → n ≡ words-in b → m ≡ rules-in b → Counts b n m
 counts b n m l h e f = record { long = l; held = h; config = e; rules = f }
@@ -48,6 +52,12 @@ module _ {b : List ℕ} {n m : ℕ} (c : Counts b n m) where
 
   pub can-decide : CanDecide (config-part b n) (program-part b m)
   can-decide = record { state = c .held .state; meant = parts-viewed (next-in b) refl .meant (c .held .state) (c .held .holds) }
+
+  -- behind the configuration all is zero
+  pub config-zeros : Zeros b (184413 + 3 * n) 270429
+  config-zeros i p q =
+      let h = held-checks most-parts (omega arith) b (c .held .state) (c .held .holds) .0 in
+      h .unused .words i (omega (arith, c .config, starts .3)) (omega (arith, lengths .0))
 
   -- the next fresh number fits two bytes
   pub next-low : (next : ℕ) → next ≡ next-in b → next < 65536
@@ -73,9 +83,6 @@ room-is w h = omega (arith, length-words (cut 401408 487424 w), length-cut 40140
 pub was-built : (b w w′ : List ℕ) (n m next r i x : ℕ) → 524288 ≤ length w → Built (length (words (cut 401408 487424 w))) (effect-words (config-part b n) (program-part b m) r i next) x (words (cut 401408 487424 w′)) → WasBuilt b n m next r i x w′
 was-built b w w′ n m next r i x h t = record { built = subst (λ (c : ℕ). Built c (effect-words (config-part b n) (program-part b m) r i next) x (words (cut 401408 487424 w′))) (room-is w h) t }
 
-pub can-settle : (b w : List ℕ) → 270429 ≤ length b → 524288 ≤ length w → CanSettle b (cut 401408 487424 w)
-can-settle b w l h = record { store = l; room = omega (arith, length-cut 401408 487424 w (omega arith)) }
-
 -- a rule's number is that of a row
 nth-within : {A : Type 0} (l : List A) (p : ℕ) (x : A) → nth l p ≡ some x → p < size l
 unfolding nth size
@@ -97,6 +104,16 @@ module _ {b : List ℕ} {n m : ℕ} (c : Counts b n m) (r p a i : ℕ) (g : Goes
       let q = can-decide c in
       let R = g (q .state) (q .meant) in
       omega (arith, stands-within (q .state) (config-part b n) (R .at-place) i (R .takes .stands))
+
+  pub can-settle : (next f : ℕ) → next ≡ next-in b → Capped (fresh-words (config-part b n) r i) f → next + f ≤ 65535
+      → (x : ℕ) (w : List ℕ) → 524288 ≤ length w → WasBuilt b n m next r i x w → (adds : Bool) → adds ≡ adds-parts r → CanSettle b (cut 401408 487424 w) x n adds
+  can-settle next f e k h x w l t adds ea = record {
+    store = c .long;
+    room = omega (arith, length-cut 401408 487424 w (omega arith));
+    few-old = omega (arith, config-fits c);
+    zeros = config-zeros c;
+    fit = λ no-more few. fit-next b (config-part b n) (program-part b m) next (parts-viewed c next e) (step-of r p a) i f g k h x (cut 401408 487424 w) (t .built) (c .held .state) (c .held .holds) (sym ea ∙ no-more) few;
+  }
 
   pub can-rewrite : (next f : ℕ) → next ≡ next-in b → Capped (fresh-words (config-part b n) r i) f → next + f ≤ 65535 → CanRewrite (config-part b n) r i next
   can-rewrite next f e k h =

@@ -13,6 +13,7 @@ use Rattle.akl.specs.Syntax.{Var, atom, call, comp, hide, choice}
 use Rattle.akl.specs.Configuration.{Kind, goal, Node, or, and, stmt, choice-box, guard, Ctx, plug}
 use Rattle.akl.specs.Places.{Place, at}
 use Rattle.akl.specs.WellFormed.{constraint-fits, statement-fits, depth, statement-passes, statements-pass}
+use Rattle.accept.proofs.EffectSound.{whole}
 use Rattle.theory.specs.Formed.{Formed}
 use Rattle.theory.proofs.Closed.{any-number, ClosedCon}
 use Rattle.theory.proofs.InContext.{Pass, pass-context}
@@ -70,6 +71,9 @@ module _ (W D : List Word) (s : State) (m : Meant W D s) where
 
   pub plug-is : {k : Kind} (χ : Ctx k) (n : Node k) (i : ℕ) → Stands num χ n [] W i → plug χ n ≡ s .config .root
   plug-is χ n i t = whole-is (plug χ n) (t .whole)
+
+  pub place-is : (pl : Place) (i : ℕ) → StandsAt s W pl i → whole pl ≡ s .config .root
+  place-is (at χ n) i t = plug-is χ n i t
 
   passes : {k : Kind} (χ : Ctx k) (n : Node k) (i : ℕ) → Stands num χ n [] W i → Pass (program-of s) n
   passes χ n i t =

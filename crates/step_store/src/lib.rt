@@ -61,12 +61,21 @@ fn build(b: &[u8], w: &mut [u8], n: usize, m: usize, next: usize, r: usize, i: u
     rewrite_in(&b[184413..e], &b[61485..f], r, i, next, w, 401408, 487424)
 }
 
-// Settles the `x` words that were built in the part of `w` from `lo` on up to `hi`.
-fn settle_from(b: &mut [u8], w: &[u8], lo: usize, hi: usize, x: usize, next: usize) -> usize
-    requires { ⌜ CanSettle (now b) (cut lo hi (now w)) × (lo ≤ hi) × (hi ≤ length (now w)) ⌝ }
+// Settles the `x` words that were built in the part of `w` from `lo` on up to `hi`, over the `n` words of the store.
+fn settle_from(
+    b: &mut [u8],
+    w: &[u8],
+    lo: usize,
+    hi: usize,
+    x: usize,
+    next: usize,
+    n: usize,
+    adds: bool,
+) -> usize
+    requires { ⌜ CanSettle (now b) (cut lo hi (now w)) x n adds × (lo ≤ hi) × (hi ≤ length (now w)) ⌝ }
     ensures { λ y. ⌜ Settled (now (b .entry)) (cut lo hi (now (w .entry))) x next (now (b .exit)) y ⌝ }
 {
-    store_commit::settle(b, &w[lo..hi], x, next)
+    store_commit::settle(b, &w[lo..hi], x, next, n, adds)
 }
 
 // Rule `r` at the place `p` with the argument `a`. Answers the refusal, 10 to 15; or 0, and `b` is the store after the step.
@@ -85,7 +94,8 @@ pub fn step(b: &mut [u8], w: &mut [u8], r: usize, p: Place, a: usize) -> usize
                 return 14; // too few numbers are left
             }
             let x = build(b, w, n, m, next, r, i);
-            settle_from(b, w, 401408, 487424, x, next + f)
+            let adds = step_fewer::adds(r);
+            settle_from(b, w, 401408, 487424, x, next + f, n, adds)
         }
     }
 }

@@ -1,4 +1,5 @@
 pub mod Lists
+pub mod Behind
 pub mod States
 pub mod Words
 pub mod Parts

@@ -34,7 +34,7 @@ two-regions L K S X Y a h c e ah lk hc ce el x y =
     ∙ append-assoc (take a L) K (take (c - h) (drop h L) ++ region (e - c) S (drop e L))
 
 -- the first region is full
-counts-put : (L : List ℕ) (n next : ℕ) (H X : List ℕ) → H ≡ numbers-bytes (n ∷ next ∷ []) → Regioned L 12 18 (take 6 H) X → X ≡ take 12 L ++ (numbers-bytes (n ∷ next ∷ []) ++ drop 18 L)
+pub counts-put : (L : List ℕ) (n next : ℕ) (H X : List ℕ) → H ≡ numbers-bytes (n ∷ next ∷ []) → Regioned L 12 18 (take 6 H) X → X ≡ take 12 L ++ (numbers-bytes (n ∷ next ∷ []) ++ drop 18 L)
 unfolding numbers-bytes number-bytes region
 counts-put L n next H X e w = w .list ∙ ap (λ (h : List ℕ). take 12 L ++ region (18 - 12) (take 6 h) (drop 18 L)) e
 

@@ -1,23 +1,29 @@
 -- What is left of a step when its new configuration is built, as n words in S, with its next fresh number: 14, 15, or the store
 -- written. Assumes nothing.
 use mathlib.Core.Path.{_≡_}
+use mathlib.Core.Bool.{Bool, false}
 use mathlib.Core.List.{List}
-use Prim.Native.Nat.{ℕ, suc, _≤_, _<_}
+use Prim.Native.Nat.{ℕ, suc, _+_, _*_, _≤_, _<_}
 use lib.ListN.{length, take}
 use Rattle.akl.specs.Limits.{last-number, most-parts}
 use Rattle.mem_words.specs.Words.{words}
 use Rattle.store_parts.specs.declared.Among.the-variants.{Others}
 use Rattle.store_parts.specs.Counting.{parts-in}
+use Rattle.check_zeros.specs.Zeros.{Zeros}
 use Rattle.store_commit.specs.Committed.{Committed}
 
 -- as many words as a configuration within the limits can have
 abbrev pub most-words : ℕ
 most-words = 28672
 
-pub record CanSettle (L S : List ℕ) : Type 0 where
+-- L's configuration has `old` words; where the rule adds no parts it is known that they are not too many
+pub record CanSettle (L S : List ℕ) (n old : ℕ) (adds : Bool) : Type 0 where
   pub store : 270429 ≤ length L
   -- there is room for them
   pub room : 86016 ≤ length S
+  pub few-old : old ≤ most-words
+  pub zeros : Zeros L (184413 + 3 * old) 270429
+  pub fit : adds ≡ false → n ≤ most-words → parts-in Others (take n (words S)) ≤ most-parts
 
 pub data Settled (L S : List ℕ) (n next : ℕ) (X : List ℕ) : ℕ → Type 0 where
   number-over : suc last-number < next → X ≡ L → Settled L S n next X 14

@@ -13,20 +13,20 @@ returns c = number-over (omega (arith, c .if1 .taken)) refl
 returns-2 : tie.Need-returns-2
 returns-2 c = words-over (omega (arith, c .before .if1 .left)) (omega (arith, c .if2 .taken)) refl
 
-fits-parts-requires : tie.Need-fits-parts-requires
-fits-parts-requires c κs = (omega (arith, c .before .before .before .before .pre .room, c .if2 .left), omega (arith, c .if2 .left))
+within-requires : tie.Need-within-requires
+within-requires c κs = (omega (arith, c .before .before .before .before .pre .room, c .if2 .left), omega (arith, c .if2 .left), λ a. c .before .before .before .before .pre .fit a (omega (arith, c .if2 .left)))
 
 returns-3 : tie.Need-returns-3
-returns-3 c = parts-over (omega (arith, c .before .before .before .if1 .left)) (omega (arith, c .before .before .if2 .left)) (leb-false _ _ (sym (c .before .fits-parts .ensures) ∙ not-true (c .before .fits-parts .result) (c .if3 .taken))) refl
+returns-3 c = parts-over (omega (arith, c .before .before .before .if1 .left)) (omega (arith, c .before .before .if2 .left)) (leb-false _ _ (sym (c .before .within .ensures) ∙ not-true (c .before .within .result) (c .if3 .taken))) refl
 
 commit-requires : tie.Need-commit-requires
-commit-requires c κs = record { store = c .before .before .before .before .before .before .before .pre .store; source = omega (arith, c .before .before .before .before .before .before .before .pre .room, c .before .before .before .if2 .left); few = omega (arith, c .before .before .before .if2 .left) }
+commit-requires c κs = record { store = c .before .before .before .before .before .before .before .pre .store; source = omega (arith, c .before .before .before .before .before .before .before .pre .room, c .before .before .before .if2 .left); few = omega (arith, c .before .before .before .if2 .left); few-old = c .before .before .before .before .before .before .before .pre .few-old; zeros = c .before .before .before .before .before .before .before .pre .zeros }
 
 same-length : tie.Need-same-length
 same-length c = c .before .before .commit .kept .0
 
 returns-4 : tie.Need-returns-4
-returns-4 c = written (omega (arith, c .before .before .before .before .before .before .before .if1 .left)) (omega (arith, c .before .before .before .before .before .before .if2 .left)) (leb-true _ _ (sym (c .before .before .before .before .before .fits-parts .ensures) ∙ not-false (c .before .before .before .before .before .fits-parts .result) (c .before .before .before .before .if3 .left))) (c .before .before .commit .ensures)
+returns-4 c = written (omega (arith, c .before .before .before .before .before .before .before .if1 .left)) (omega (arith, c .before .before .before .before .before .before .if2 .left)) (leb-true _ _ (sym (c .before .before .before .before .before .within .ensures) ∙ not-false (c .before .before .before .before .before .within .result) (c .before .before .before .before .if3 .left))) (c .before .before .commit .ensures)
 
 pub settle-spec : {M : Type 1} → statement M
-settle-spec = tie.close (tie.spec returns returns-2 fits-parts-requires returns-3 commit-requires same-length returns-4)
+settle-spec = tie.close (tie.spec returns returns-2 within-requires returns-3 commit-requires same-length returns-4)
