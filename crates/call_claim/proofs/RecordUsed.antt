@@ -1,9 +1,10 @@
--- Closed uses: the record of document 01, as the calls of a host after an accepted start, with refused calls and questions in between.
+-- Closed uses: the record of document 01, as the calls of a host after an accepted start, with refused calls, refused starts among them,
+-- and questions in between.
 -- A definition that made the claim say less would not give these numbers and this table.
 use mathlib.Core.Path.{_≡_, refl, ap, sym, _∙_, subst}
 use mathlib.Core.Logic.{_↔_, _⊎_, inl, inr}
 use mathlib.Core.List.{List, [], _∷_, _++_, append-assoc, append-nil}
-use mathlib.Core.Bool.{Bool, true, false}
+use mathlib.Core.Bool.{Bool, true, false, _||_}
 use Prim.Native.Nat.{ℕ, zero, suc, _+_, _*_, _≤_, _<_}
 use native.Mathlib.Omega.{arith}
 use lib.Dec.{ltb}
@@ -14,11 +15,13 @@ use Rattle.akl.specs.Base.{bytes}
 use Rattle.akl.specs.Limits.{most-parts}
 use Rattle.akl.specs.Computed.{everything}
 use Rattle.akl.specs.StepsText.{Step}
+use Rattle.akl.specs.Reader.{read-program}
 use Rattle.akl.specs.Configuration.{Config}
 use Rattle.runs.specs.Calls.{after-calls}
 use Rattle.runs.proofs.Used.{program-of, query-of, config-of, line, P₀, q₀, c₀, kept, new, used-answers}
 use Rattle.store_calls.specs.Handed.{returned, counted, written}
 use Rattle.start_settle.specs.Settled.{working-bytes}
+use Rattle.start_outcome.specs.Outcome.{program-refusal}
 use Rattle.start_call.specs.Called.{StartCalled}
 use Rattle.call_claim.specs.Host.{Request, for-step, for-run, for-answer, for-state, for-count, for-start, HostCall, History}
 use Rattle.call_claim.specs.Seen.{accepted-of, accepted-steps, NoneLoses}
@@ -27,6 +30,7 @@ use Rattle.call_claim.specs.Table.{Among, HandedOut, FitsSome, ToldCount
 use Rattle.call_claim.proofs.Histories.{after-parts, calls-parts}
 use Rattle.call_claim.proofs.Facts.{Facts, facts}
 use Rattle.call_claim.proofs.Tables.{table-exact}
+use Rattle.call_claim.proofs.Made.{StartsRefused}
 
 abbrev text₀ : List ℕ
 text₀ = bytes "amend(K) := (K = kept ? true ; K = new ? true)."
@@ -137,6 +141,16 @@ module _ (b₀ u b u′ : List ℕ) (S : StartCalled text₀ query₀ b₀ u b u
 
   lent : Lent (steps₀ ++ asks₀) shorts
   lent = (fit 0, (fit 1, (fit 2, (unfit, (unfit, (fit 5, (fit 6, (fit 7, (unfit, (fit 9, (fit 10, (unfit, (fit 12, (fit 13, (fit 14, (fit 15, (unfit, (unfit, tt))))))))))))))))))
+
+  -- Its two starts are refused, so there are such calls (Made: all-made): one for its query, one for its working slice.
+  pub used-refused : StartsRefused ((for-start text₀ (bytes "amend(K"), v 6) ∷ (for-start text₀ query₀, few) ∷ [])
+  unfolding everything
+  used-refused = (λ e z. absurd (omega (arith, z)), (scanty (ltb (length few) working-bytes) unfit, tt))
+    where
+      scanty : (y : Bool) → y ≡ true → (e : Bool) → program-refusal most-parts (e || y) query₀ (read-program text₀) ≡ 0 → ⊥
+      scanty true h true z = absurd (omega (arith, z))
+      scanty true h false z = absurd (omega (arith, z))
+      scanty false h e z = let k : _≡_ {A = ℕ} 0 1 = ap (λ (i : Bool). elim i as (λ v. ℕ) [ false ↦ 0 | true ↦ 1 ]) h in absurd (omega (arith, k))
 
   module _ (c : List ℕ) (h : History b (steps₀ ++ asks₀) c) where
     claim : Facts P₀ q₀ c₀ (steps₀ ++ asks₀)
