@@ -1,5 +1,5 @@
 -- The claim is not about nothing: whatever is asked for, in any order and with any working and output slices, there are calls that do
--- what their contracts say, from any bytes on. Starts are those that are refused.
+-- what their contracts say, one after the other on one store's slice, of any length and any bytes. Starts are those that are refused.
 use mathlib.Core.Path.{_≡_, refl}
 use mathlib.Core.List.{List, [], _∷_}
 use mathlib.Core.Bool.{Bool, _||_}
@@ -108,6 +108,7 @@ Ask [] (r ∷ rs) = ⊥
 Ask (k ∷ ks) [] = ⊥
 Ask (k ∷ ks) (r ∷ rs) = ((z : List ℕ) × (k .request ≡ with-out (r .0) z)) × ((k .work ≡ r .1) × Ask ks rs)
 
+-- each start among the requests is refused with the slice beside it
 abbrev pub StartsRefused : List (Request × List ℕ) → Type 0
 StartsRefused [] = Unit {0}
 StartsRefused (r ∷ rs) = StartRefused (r .0) (r .1) × StartsRefused rs
