@@ -16,7 +16,7 @@ use Rattle.runs.specs.Outcomes.{step-outcome, text-outcome, outcome}
 use Rattle.store_calls.specs.Handed.{returned, counted}
 use Rattle.store_calls.specs.Calls.{run-meant}
 use Rattle.call_run.specs.Called.{run-number}
-use Rattle.call_claim.specs.Host.{Request, for-step, for-run, for-answer, for-state, for-count}
+use Rattle.call_claim.specs.Host.{Request, for-step, for-run, for-answer, for-state, for-count, for-start}
 use Rattle.call_claim.specs.HostRun.{stands-for, Gets}
 use Rattle.call_claim.specs.Seen.{steps-of, accepted-of, NoneLoses}
 use Rattle.call_claim.proofs.Refused.{Within, of-step}
@@ -121,3 +121,4 @@ module _ (P : Program) where
     took true for-state x h = refl
     took false for-state x h = refl
     took s for-count x h = refl
+    took s (for-start t q) x h = refl

@@ -1,11 +1,11 @@
--- Demand 3 on the calls of a host, as one claim: whatever calls are made on a store after an accepted start, in any order and with
--- any slices, refused or not.
+-- Demand 3 on the calls of a host, as one claim: whatever calls are made on a store after an accepted start, in any order, refused or
+-- not. The store's slice is one and the same, of any length from the documented one on; working and output slices are any.
 --
 -- To understand it read, in this order:
 --   specs/Host: Request, HostCall, Did, History
---     with the contracts that it names: StepCalled, RunCalled, AnswerCalled, StateCalled, CountCalled in specs/Called of call_step,
---     call_run, call_answer, call_state, call_count; these are what the exported functions ensure, word for word
---   start_call/specs/Called: StartCalled; start_outcome/specs/Outcome: StartTo, Started
+--     with the contracts that it names: StartCalled, StepCalled, RunCalled, AnswerCalled, StateCalled, CountCalled in specs/Called of
+--     start_call, call_step, call_run, call_answer, call_state, call_count; these are what the exported functions ensure, word for word
+--   start_outcome/specs/Outcome: StartTo, Started, program-refusal
 --   specs/HostRun: calls, Gets, HostRun; specs/Seen: accepted-steps
 --   runs/specs/Calls: Call, after-calls, calls-moves; runs/specs/Outcomes: outcome
 --   runs/specs/RunHolds: RunHolds; runs/specs/CallHolds: CallHolds; runs/specs/Shown: ReadsAs, FitsText

@@ -3,7 +3,7 @@ use mathlib.Core.Path.{_≡_, refl, ap, sym, _∙_, subst}
 use mathlib.Core.List.{List, [], _∷_, _++_, append-assoc, map-append}
 use mathlib.Core.Bool.{Bool, true, false}
 use mathlib.Core.Option.{some}
-use Prim.Native.Nat.{ℕ, _*_}
+use Prim.Native.Nat.{ℕ, zero, suc, _*_}
 use native.Mathlib.Omega.{arith}
 use lib.Dec.{ltb}
 use lib.ListN.{length, replicate, drop}
@@ -14,6 +14,7 @@ use Rattle.akl.specs.Syntax.{Program}
 use Rattle.akl.specs.Configuration.{Config}
 use Rattle.akl.specs.Answers.{answers}
 use Rattle.akl.specs.StepsText.{Step}
+use Rattle.akl.specs.Reader.{read-program}
 use Rattle.runs.specs.Calls.{Call, Move, after-call, after-calls, calls-moves}
 use Rattle.runs.specs.Outcomes.{outcome}
 use Rattle.store_form.specs.State.{State, program-of, names-of, config-of}
@@ -28,11 +29,12 @@ use Rattle.store_calls.specs.Calls as bytes
 use Rattle.store_calls.specs.Calls.{Asked, call-outcome, asked-meant, meant}
 use Rattle.store_calls.proofs.OnBytes.{begin-long, begin-held, call-on-bytes}
 use Rattle.store_lent.specs.Lent.{working-bytes}
+use Rattle.start_outcome.specs.Outcome.{program-refusal, start-refusal, StoreAfter}
 use Rattle.call_run.specs.Called.{run-number}
 use Rattle.call_answer.specs.Called.{answer-told}
 use Rattle.call_state.specs.Called.{state-told}
 use Rattle.call_count.specs.Called.{count-told}
-use Rattle.call_claim.specs.Host.{Request, for-step, for-run, for-answer, for-state, for-count, HostCall, Does, Did, History}
+use Rattle.call_claim.specs.Host.{Request, for-step, for-run, for-answer, for-state, for-count, for-start, HostCall, Does, Did, History}
 use Rattle.call_claim.specs.Seen.{accepted-of, accepted-steps}
 use Rattle.call_claim.specs.HostRun.{short, stands-for, calls, Gets, CallGets}
 use Rattle.call_claim.proofs.Accepting.{steps-taken, moves-parts, took}
@@ -51,6 +53,11 @@ calls-parts (j ∷ js) ks = ap (λ (l : List Call). stands-for (short j) (j .req
 -- where the calls of a request lead
 abbrev pub leads : Program → Config → Bool → Request → Config
 leads P d u r = after-calls most-parts P d (stands-for u r)
+
+-- A start that is refused changes no store.
+start-leaves : (t q b b′ : List ℕ) (x : ℕ) → StoreAfter most-parts t q b b′ x → (x ≡ 0 → ⊥) → b′ ≡ b
+start-leaves t q b b′ zero h r = absurd (r refl)
+start-leaves t q b b′ (suc x) h r = h
 
 module _ (rest : List ℕ) where
   -- the slice of a state
@@ -86,6 +93,10 @@ module _ (rest : List ℕ) where
         same true = refl
         same false = refl
 
+    start-refused : (t q : List ℕ) (v : ℕ) (u : Bool) → ltb v working-bytes ≡ u → start-refusal most-parts working-bytes t q (slice s) v ≡ program-refusal most-parts u q (read-program t)
+    unfolding start-refusal
+    start-refused t q v u e = ap (λ (x : Bool). program-refusal most-parts x q (read-program t)) (begin-long most-parts (omega arith) working-bytes rest s (w .fits) v u e)
+
     -- a question leaves the bytes, too short a working slice or not
     answer-leaves : (u : Bool) (n : ℕ) (o o′ : List ℕ) → slice s ≡ then u (for-answer n o o′)
     unfolding after-calls
@@ -114,6 +125,8 @@ module _ (rest : List ℕ) where
         let e = on bytes.for-state (length v) in
         (h .0 .state .number ∙ ap (λ (r : Called). state-told (r .told)) e, h .0 .working, h .1 ∙ state-leaves (ltb (length v) working-bytes))
     does for-count v v′ x d h = (h .0 .count .number ∙ counted (length v) (ltb (length v) working-bytes) refl, h .0 .working, h .1)
+    does (for-start t q) v v′ x d h =
+        (h .0 .start .refusal ∙ start-refused t q (length v) (ltb (length v) working-bytes) refl, h .0 .working, start-leaves t q (slice s) d x (h .0 .start .store) (h .1))
 
   -- One call: what it gets,
   did-gets : (s : State) → Stands most-parts s → (k : HostCall) (d : List ℕ) → Did k (slice s) d → CallGets (program-of s) (names-of s) (config-of s) k

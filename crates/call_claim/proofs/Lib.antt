@@ -6,5 +6,5 @@ pub mod Facts
 pub mod Told
 pub mod Used
 pub mod Tables
-pub mod RecordUsed
 pub mod Made
+pub mod RecordUsed

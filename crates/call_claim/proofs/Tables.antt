@@ -21,13 +21,13 @@ use Rattle.runs.specs.Outcomes.{shown, outcome}
 use Rattle.runs.specs.Shown.{ReadsAs}
 use Rattle.runs.specs.RunHolds.{TextFits}
 use Rattle.start_call.specs.Called.{StartCalled}
-use Rattle.call_claim.specs.Host.{Request, for-step, for-run, for-answer, for-state, for-count, HostCall, History}
+use Rattle.call_claim.specs.Host.{Request, for-step, for-run, for-answer, for-state, for-count, for-start, HostCall, History}
 use Rattle.call_claim.specs.Seen.{accepted-steps, NoneLoses}
 use Rattle.call_claim.specs.HostRun.{short, stands-for, calls, CallGets}
 use Rattle.call_claim.specs.Table.{Among, FitsSome, Question, Questions, WholeTable}
 use Rattle.call_claim.proofs.Histories.{after-parts, calls-parts}
 use Rattle.call_claim.proofs.Facts.{Facts, facts, none-prunes, first-part}
-use Rattle.call_claim.proofs.Told.{shown-once, shown-numbered, failed-none, handed-shown, ended-is, zero-failed, count-is}
+use Rattle.call_claim.proofs.Told.{shown-once, shown-numbered, failed-none, handed-shown, ended-is, zero-failed, at-most}
 use Rattle.call_claim.proofs.Used.{fits-satisfies}
 
 -- Questions lead nowhere.
@@ -40,6 +40,7 @@ question-leaves P d false (for-answer n o o′) q = refl
 question-leaves P d true for-state q = refl
 question-leaves P d false for-state q = refl
 question-leaves P d v for-count q = refl
+question-leaves P d v (for-start t q) h = refl
 
 questions-leave : (P : Program) (qs : List HostCall) (d : Config) → Questions qs → after-calls most-parts P d (calls qs) ≡ d
 unfolding calls after-calls
@@ -84,7 +85,7 @@ module _ (text query b₀ u b u′ : List ℕ) (S : StartCalled text query b₀ 
         let there = asked-there (W .questions) in
         let e : outcome most-parts P names end (ask-answer (f .number) (size (f .text))) ≡ shown (f .text) = f .handed (size (f .text)) (omega arith) in
         let n = shown-numbered names (end .root) (f .number) (size (f .text)) (f .text) e in
-        let N = count-is P names end (W .count-call) (there (W .count-call) (W .count-among)) (W .count) (W .counted) in
+        let N = at-most P names end (W .count-call) (there (W .count-call) (W .count-among)) (W .count) (W .counted) in
         let w = W .each (f .number) (n .0) (omega (arith, n .1, N)) in
         let same : f .text ≡ w .1 =
             shown-once names (end .root) (f .number) (size (f .text)) (length (w .3 .out)) (f .text) (w .1) e

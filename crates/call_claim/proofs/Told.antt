@@ -1,6 +1,6 @@
 -- What the numbers that calls returned say of the configuration that they were made on. Assumes nothing.
 use mathlib.Core.Path.{_≡_, refl, ap, sym, _∙_, subst}
-use mathlib.Core.Logic.{inl, inr}
+use mathlib.Core.Logic.{_⊎_, inl, inr}
 use mathlib.Core.List.{List, [], _∷_, _++_}
 use mathlib.Core.Bool.{Bool, true, false}
 use mathlib.Core.Option.{Option, some, none}
@@ -24,7 +24,7 @@ use Rattle.call_answer.specs.Called.{answer-told}
 use Rattle.call_state.specs.Called.{state-told}
 use Rattle.call_claim.specs.Host.{Request, for-answer, for-state, HostCall}
 use Rattle.call_claim.specs.HostRun.{short, Gets, CallGets}
-use Rattle.call_claim.specs.Table.{HandedOut, ToldEnded, ToldCount}
+use Rattle.call_claim.specs.Table.{HandedOut, ToldEnded, ToldCount, ToldLast}
 
 -- A question for an answer is refused with 16 or 17,
 abbrev Low : Result (List ℕ) → Type 0
@@ -83,6 +83,25 @@ shown-numbered xs g (suc i) m t e = (omega arith, within (ltb i (size (answers g
     within false q =
         let none-there : nth (answers g) i ≡ none = nth-none (answers g) i (ltb-false i (size (answers g)) q) in
         clash 16 t (sym (ap (λ (o : Option Answer). answer-outcome (elim o as (λ v. Result (List ℕ)) [ none ↦ refused 16 | some a ↦ fitted m (answer-text xs a) ])) none-there) ∙ e)
+
+-- 16 is told where there is no answer of the number.
+none-behind : {A : Type 0} (l : List A) (i : ℕ) → nth l i ≡ none → size l ≤ i
+unfolding nth size
+none-behind [] i e = omega arith
+none-behind {A} (x ∷ l) zero e = let z : _≡_ {A = ℕ} 1 0 = ap (λ (o : Option A). elim o as (λ v. ℕ) [ none ↦ 0 | some a ↦ 1 ]) e in absurd (omega (arith, z))
+none-behind (x ∷ l) (suc i) e = omega (arith, none-behind l i e)
+
+none-numbered : (xs : List Name) (g : Node goal) (n m : ℕ) → answer-told (answer-outcome (answer xs g (suc n) m)) ≡ 16 → size (answers g) ≤ n
+unfolding answer
+none-numbered xs g n m = go (nth (answers g) n) refl
+  where
+    fit : {A : Type 0} (u : Bool) (t : List ℕ) → answer-told (answer-outcome (if u (refused 17) (ok t))) ≡ 16 → A
+    fit true t e = absurd (omega (arith, e))
+    fit false t e = absurd (omega (arith, e))
+
+    go : (o : Option Answer) → nth (answers g) n ≡ o → answer-told (answer-outcome (elim o as (λ v. Result (List ℕ)) [ none ↦ refused 16 | some a ↦ fitted m (answer-text xs a) ])) ≡ 16 → size (answers g) ≤ n
+    go none q e = none-behind (answers g) n q
+    go (some a) q e = fit (ltb m (size (answer-text xs a))) (answer-text xs a) e
 
 state-index : State → ℕ
 state-index failed = 0
@@ -158,3 +177,19 @@ module _ (P : Program) (xs : List Name) (d : Config) (k : HostCall) (C : CallGet
       go : (v : Bool) → k .returned ≡ if v 8 (256 * size (answers (d .root))) → size (answers (d .root)) ≡ n
       go true e = absurd (omega (arith, e, E .number))
       go false e = omega (arith, e, E .number)
+
+  -- and no more than n, where there is none behind the n-th
+  pub last-is : (n : ℕ) → ToldLast k n → size (answers (d .root)) ≤ n
+  last-is n E = go (short k) (G .0)
+    where
+      G : Gets P xs d (short k) (for-answer (suc n) (E .out) (E .out′)) (k .returned)
+      G = subst (λ (r : Request). Gets P xs d (short k) r (k .returned)) (E .asked) (C .gets)
+
+      go : (v : Bool) → k .returned ≡ answer-told (outcome most-parts P xs d (unless-short v (ask-answer (suc n) (length (E .out))))) → size (answers (d .root)) ≤ n
+      go true e = absurd (omega (arith, e, E .number))
+      go false e = none-numbered xs (d .root) n (length (E .out)) (omega (arith, e, E .number))
+
+  -- either way a host knows the most that there can be
+  pub at-most : (n : ℕ) → ToldCount k n ⊎ ToldLast k n → size (answers (d .root)) ≤ n
+  at-most n (inl E) = omega (arith, count-is n E)
+  at-most n (inr E) = last-is n E

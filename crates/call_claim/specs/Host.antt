@@ -1,10 +1,12 @@
 -- Calls that a host makes, one after the other, each doing what its contract says. Assumes nothing.
 --
--- Starts are not among them: a refused one leaves the store as it was (start_outcome: StartTo), an accepted one begins another run.
+-- A start is among them where it is refused: it changes no store. One that is accepted begins another run, to which the claim applies
+-- anew.
 use mathlib.Core.Path.{_≡_}
 use mathlib.Core.List.{List, [], _∷_}
 use Prim.Native.Nat.{ℕ}
 use Rattle.akl.specs.StepsText.{Step}
+use Rattle.start_call.specs.Called.{StartCalled}
 use Rattle.call_step.specs.Called.{StepCalled}
 use Rattle.call_run.specs.Called.{RunCalled}
 use Rattle.call_answer.specs.Called.{AnswerCalled}
@@ -23,6 +25,8 @@ pub data Request : Type 0 where
   for-state : Request
   -- akl_count
   for-count : Request
+  -- akl_start, refused: the texts of program and query
+  for-start : List ℕ → List ℕ → Request
 
 -- a call: the working slice before it and after it, and the number that it returned
 pub record HostCall : Type 0 where
@@ -39,6 +43,7 @@ Does (for-run t) u u′ x b b′ = RunCalled t b u b′ u′ x
 Does (for-answer n o o′) u u′ x b b′ = AnswerCalled b u n o u′ o′ x × (b′ ≡ b)
 Does for-state u u′ x b b′ = StateCalled b u u′ x × (b′ ≡ b)
 Does for-count u u′ x b b′ = CountCalled b u u′ x × (b′ ≡ b)
+Does (for-start t q) u u′ x b b′ = StartCalled t q b u b′ u′ x × (x ≡ 0 → ⊥)
 
 abbrev pub Did : HostCall → List ℕ → List ℕ → Type 0
 Did k b b′ = Does (k .request) (k .work) (k .work′) (k .returned) b b′

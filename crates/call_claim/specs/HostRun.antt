@@ -22,30 +22,33 @@ use Rattle.store_calls.specs.Outcomes.{held, put-state}
 use Rattle.store_calls.specs.Handed.{returned, written}
 use Rattle.store_calls.specs.Calls.{unless-short, run-meant}
 use Rattle.store_lent.specs.Lent.{working-bytes}
+use Rattle.start_outcome.specs.Outcome.{program-refusal}
 use Rattle.call_run.specs.Called.{run-number}
 use Rattle.call_answer.specs.Called.{answer-told}
 use Rattle.call_state.specs.Called.{state-told}
-use Rattle.call_claim.specs.Host.{Request, for-step, for-run, for-answer, for-state, for-count, HostCall}
+use Rattle.call_claim.specs.Host.{Request, for-step, for-run, for-answer, for-state, for-count, for-start, HostCall}
 use Rattle.call_claim.specs.Seen.{accepted-steps}
 
 -- the working slice is shorter than documented
 abbrev pub short : HostCall → Bool
 short k = ltb (length (k .work)) working-bytes
 
--- The calls on a configuration that a request stands for: one, refused with 8 for too short a working slice; none for a count, which
--- runs do not speak of.
+-- The calls on a configuration that a request stands for: one, refused with 8 for too short a working slice; none for a count and for
+-- a refused start, which runs do not speak of.
 abbrev pub stands-for : Bool → Request → List Call
 stands-for s (for-step k) = unless-short s (one-step k) ∷ []
 stands-for s (for-run t) = run-meant t s (read-steps t) ∷ []
 stands-for s (for-answer n o o′) = unless-short s (ask-answer n (length o)) ∷ []
 stands-for s for-state = unless-short s ask-state ∷ []
 stands-for s for-count = []
+stands-for s (for-start t q) = []
 
 unfoldable pub calls : List HostCall → List Call
 calls [] = []
 calls (k ∷ ks) = stands-for (short k) (k .request) ++ calls ks
 
--- What a request made on the configuration d gets: the number x, and for an answer the output slice.
+-- What a request made on the configuration d gets: the number x, and for an answer the output slice. The store of a start in between is
+-- long enough, since it holds a state: so only the working slice can be too short.
 abbrev pub Gets : Program → List Name → Config → Bool → Request → ℕ → Type 0
 Gets P xs d s (for-step k) x = x ≡ returned (outcome most-parts P xs d (unless-short s (one-step k)))
 Gets P xs d s (for-run t) x = x ≡ run-number (outcome most-parts P xs d (run-meant t s (read-steps t)))
@@ -54,6 +57,7 @@ Gets P xs d s (for-answer n o o′) x =
     × (o′ ≡ written o (outcome most-parts P xs d (unless-short s (ask-answer n (length o)))))
 Gets P xs d s for-state x = x ≡ state-told (outcome most-parts P xs d (unless-short s ask-state))
 Gets P xs d s for-count x = x ≡ if s 8 (256 * size (answers (d .root)))
+Gets P xs d s (for-start t q) x = x ≡ program-refusal most-parts s q (read-program t)
 
 -- "the working slice is zero after every call"
 pub record CallGets (P : Program) (xs : List Name) (d : Config) (k : HostCall) : Type 0 where

@@ -7,7 +7,7 @@ use lib.ListN.{take}
 use Rattle.akl.specs.Base.{Result, refused, ok}
 use Rattle.akl.specs.StepsText.{Step, read-steps}
 use Rattle.runs.specs.Calls.{prunes}
-use Rattle.call_claim.specs.Host.{Request, for-step, for-run, for-answer, for-state, for-count, HostCall}
+use Rattle.call_claim.specs.Host.{Request, for-step, for-run, for-answer, for-state, for-count, for-start, HostCall}
 
 -- the steps of a text that was read
 abbrev pub steps-of : Result (List Step) → List Step
@@ -23,6 +23,7 @@ accepted-of (for-run t) x = take (x / 256) (steps-of (read-steps t))
 accepted-of (for-answer n o o′) x = []
 accepted-of for-state x = []
 accepted-of for-count x = []
+accepted-of (for-start t q) x = []
 
 unfoldable pub accepted-steps : List HostCall → List Step
 accepted-steps [] = []
