@@ -1,15 +1,16 @@
 -- The scan back for the box around a position, which goes over whole brackets and notes the last two. Assumes nothing.
-use mathlib.Core.Path.{_≡_, refl, ap, ap₂, sym, _∙_}
+use mathlib.Core.Path.{_≡_, refl, ap, sym, _∙_}
 use mathlib.Core.Bool.{Bool, true, false}
 use mathlib.Core.List.{List}
-use Prim.Native.Nat.{ℕ, suc, _+_, _-_, _<_, _≤_}
+use Prim.Native.Nat.{ℕ, _+_, _-_, _<_, _≤_}
 use native.Mathlib.Omega.{arith}
 use lib.ListN.{length, getD}
 use Rattle.mem_words.specs.declared.Word.{Word}
 use Rattle.mem_words.specs.declared.Word.the-variants.{Bad}
 use Rattle.rule_words.specs.Scans.{closes, close, opens, up, around}
 use Rattle.rule_words.proofs.Loops.{close-past, close-le, up-on, up-hit, up-zero, around-is}
-use Rattle.rule_inbox.specs.Found.{Within, Found, Ends, Begun, Noted, leaf-is}
+use Rattle.rule_inbox.specs.Found.{Within, Found, Noted}
+use Rattle.rule_inbox.specs.Backwards.{Ends, Begun, leaf-is}
 
 -- the scan back from i stands at j
 pub record Looked (W : List Word) (i j o1 c1 o2 c2 : ℕ) : Type 0 where

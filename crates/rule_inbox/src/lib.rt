@@ -3,8 +3,9 @@ ghost use mathlib.Core.Path.{_≡_};
 ghost use Prim.Native.Nat.{_≤_};
 ghost use lib.ListN.{length};
 ghost use Rattle.mem_words.specs.Words.{words};
-ghost use Rattle.rule_words.specs.Scans.{closes, opens, close};
-ghost use Rattle.rule_inbox.specs.Found.{Ends, Begun, Noted, Within, Found};
+ghost use Rattle.rule_words.specs.Scans.{closes, opens};
+ghost use Rattle.rule_inbox.specs.Found.{Noted, Within, Found};
+ghost use Rattle.rule_inbox.specs.Backwards.{Ends, Begun};
 use mem_words::Word;
 
 // Where a box opens, where its locals close and where its store closes.
@@ -66,24 +67,22 @@ fn begin_of(ws: &[u8], c: usize) -> usize
     c
 }
 
-// The box at `a`, its ends found by scans forwards.
+// The box at `a`, with its ends found by scans forwards.
 fn scanned(ws: &[u8], a: usize) -> Inbox
     requires { ⌜ a ≤ length (words (now ws)) ⌝ }
     ensures { λ r. ⌜ Within (words (now (ws .entry))) a (r .at) (r .locals) (r .store) ⌝ }
 {
-    let n = mem_words::count(ws);
     let u = rule_close::end_of(ws, a + 1);
     let s = rule_close::end_of(ws, u + 1);
     Inbox { at: a, locals: u, store: s }
 }
 
-// The box at `a`, where the first brackets behind it that were noted are from `o1` to `c1` and from `o2` to `c2`. They are its locals
-// and its store where nothing stands before and between them.
+// The box at `a`. The brackets from `o1` to `c1` and from `o2` to `c2` are its locals and its store where nothing stands before and
+// between them.
 fn settled(ws: &[u8], a: usize, o1: usize, c1: usize, o2: usize, c2: usize) -> Inbox
     requires { ⌜ (a ≤ length (words (now ws))) × Noted (words (now ws)) o1 c1 o2 c2 ⌝ }
     ensures { λ r. ⌜ Within (words (now (ws .entry))) a (r .at) (r .locals) (r .store) ⌝ }
 {
-    let n = mem_words::count(ws);
     if o1 != a + 1 {
         return scanned(ws, a);
     }
@@ -93,7 +92,8 @@ fn settled(ws: &[u8], a: usize, o1: usize, c1: usize, o2: usize, c2: usize) -> I
     Inbox { at: a, locals: c1, store: c2 }
 }
 
-// The box around the member at `i`.
+// The box around the member at `i`. The scan goes back over whole brackets and notes the last two; before there are any, `n` stands
+// for one that never closes.
 pub fn inbox_of(ws: &[u8], i: usize) -> Inbox
     requires { ⌜ i ≤ length (words (now ws)) ⌝ }
     ensures { λ r. ⌜ Found (words (now (ws .entry))) i (r .at) (r .locals) (r .store) ⌝ }

@@ -19,7 +19,7 @@ loop-holds : tie.Need-loop-holds Inv-loop μ-loop
 loop-holds c = looked-none (words (c .before .before .args .ws .now)) (c .before .before .args .i) (c .count .result) (c .count .ensures .is)
 
 sub-j : tie.Need-sub-j Inv-loop μ-loop
-sub-j c = search needs
+sub-j c = omega arith
 
 get-requires : tie.Need-get-requires Inv-loop μ-loop
 get-requires c κs = omega (arith, c .before .loop .inv .before, c .before .before .before .before .pre)
@@ -52,7 +52,7 @@ loop-again : tie.Need-loop-again Inv-loop μ-loop
 loop-again c = looked-over (c .before .before .before .before .before .before .before .before .loop .inv) (omega arith) (c .before .begin-of .ensures) (c .if3 .left)
 
 loop-less-2 : tie.Need-loop-less-2 Inv-loop μ-loop
-loop-less-2 c = search needs
+loop-less-2 c = omega arith
 
 loop-again-2 : tie.Need-loop-again-2 Inv-loop μ-loop
 loop-again-2 c = looked-other (c .before .before .before .before .get .result) (c .before .before .before .is-bracket .result) (c .before .is-end .result) (c .before .before .before .before .before .before .loop .inv) (omega arith) (c .before .before .before .before .get .ensures .is) (c .before .before .before .is-bracket .ensures) (c .before .before .if1 .left) (c .before .is-end .ensures) (c .if2 .left)
