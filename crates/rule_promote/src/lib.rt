@@ -41,13 +41,11 @@ pub fn promote(ws: &[u8], i: usize, out: &mut [u8]) -> usize
     ensures { λ r. ⌜ Built (length (words (now (out .entry)))) (effect-6 (words (now (ws .entry))) i) r (words (now (out .exit))) ⌝ }
 {
     let n = mem_words::count(ws);
-    let a = rule_around::opening_of(ws, i);
-    let u = rule_close::end_of(ws, a + 1);
-    let s = rule_close::end_of(ws, u + 1);
+    let x = rule_inbox::inbox_of(ws, i);
     let v = rule_close::end_of(ws, i + 2 + 1);
     let t = rule_close::end_of(ws, v + 1);
     let g = rule_close::end_of(ws, i + 2);
     let c = rule_close::end_of(ws, g + 1);
     let e = rule_close::end_of(ws, i);
-    lift(ws, i, u, s, v, t, g + 1, c + 1, e, out)
+    lift(ws, i, x.locals, x.store, v, t, g + 1, c + 1, e, out)
 }

@@ -33,8 +33,7 @@ pub fn reveal(ws: &[u8], i: usize, next: usize, out: &mut [u8]) -> usize
 {
     let c = mem_words::count(ws);
     let n = rule_number::number_at(ws, i + 2);
-    let a = rule_around::opening_of(ws, i);
-    let u = rule_close::end_of(ws, a + 1);
+    let x = rule_inbox::inbox_of(ws, i);
     let s = rule_close::end_of(ws, i + 1);
-    reveal_at(ws, i, n, next, u, s, out)
+    reveal_at(ws, i, n, next, x.locals, s, out)
 }

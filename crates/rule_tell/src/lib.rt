@@ -69,11 +69,9 @@ pub fn tell(ws: &[u8], i: usize, out: &mut [u8]) -> usize
     ensures { λ r. ⌜ Built (length (words (now (out .entry)))) (effect-1 (words (now (ws .entry))) i) r (words (now (out .exit))) ⌝ }
 {
     let n = mem_words::count(ws);
-    let a = rule_around::opening_of(ws, i);
-    let u = rule_close::end_of(ws, a + 1);
-    let s = rule_close::end_of(ws, u + 1);
+    let x = rule_inbox::inbox_of(ws, i);
     let e = rule_close::end_of(ws, i);
     let w = rule_read::word_at(ws, i + 1);
     let b = told_up_to(w, i + 1, e);
-    move_in(ws, i, s, b, e, out)
+    move_in(ws, i, x.store, b, e, out)
 }

@@ -16,29 +16,23 @@ add-number-at c = omega (arith, c .count .ensures .small, c .count .ensures .is,
 number-at-requires : tie.Need-number-at-requires
 number-at-requires c κs = search needs
 
-opening-of-requires : tie.Need-opening-of-requires
-opening-of-requires c κs = c .before .before .before .before .pre .0
+inbox-of-requires : tie.Need-inbox-of-requires
+inbox-of-requires c κs = c .before .before .before .before .pre .0
 
 add-end-of : tie.Need-add-end-of
-add-end-of c = omega (arith, c .before .before .count .ensures .small, c .before .before .count .ensures .is, c .opening-of .ensures .1, c .before .before .before .before .before .pre .0)
+add-end-of c = omega (arith, c .before .before .count .ensures .small, c .before .before .count .ensures .is, c .before .before .before .before .before .pre .0)
 
 end-of-requires : tie.Need-end-of-requires
 end-of-requires c κs = search needs
 
-add-end-of-2 : tie.Need-add-end-of-2
-add-end-of-2 c = omega (arith, c .before .before .before .count .ensures .small, c .before .before .before .count .ensures .is, c .before .before .before .before .before .before .pre .0)
-
-end-of-requires-2 : tie.Need-end-of-requires-2
-end-of-requires-2 c κs = search needs
-
 reveal-at-requires : tie.Need-reveal-at-requires
-reveal-at-requires c κs = (c .before .before .before .before .before .before .before .before .pre .0, c .before .end-of2 .ensures .1, omega (arith, fresh-4-is (words (c .before .before .before .before .before .before .before .before .args .ws .now)) (c .before .before .before .before .before .before .before .before .args .i) _ (c .before .before .before .before .number-at .ensures .0), c .before .before .before .before .before .before .before .before .pre .1))
+reveal-at-requires c κs = (c .before .before .before .before .before .before .before .pre .0, c .before .end-of .ensures .1, omega (arith, fresh-4-is (words (c .before .before .before .before .before .before .before .args .ws .now)) (c .before .before .before .before .before .before .before .args .i) _ (c .before .before .before .number-at .ensures .0), c .before .before .before .before .before .before .before .pre .1))
 
 same-length : tie.Need-same-length
 same-length c = search needs
 
 returns : tie.Need-returns
-returns c = built-as _ (effect-4-is (words (c .before .before .before .before .before .before .before .before .before .before .before .args .ws .now)) (c .before .before .before .before .before .before .before .before .before .before .before .args .i) (c .before .before .before .before .before .before .before .before .before .before .before .args .next) _ _ _ _ (c .before .before .before .before .before .before .before .number-at .ensures .0) (c .before .before .before .before .before .before .opening-of .ensures .0) (c .before .before .before .before .before .end-of .ensures .0) (c .before .before .before .before .end-of2 .ensures .0)) (c .before .before .reveal-at .ensures)
+returns c = built-as _ (effect-4-is (words (c .before .before .before .before .before .before .before .before .before .before .args .ws .now)) (c .before .before .before .before .before .before .before .before .before .before .args .i) (c .before .before .before .before .before .before .before .before .before .before .args .next) _ _ _ _ (c .before .before .before .before .before .before .number-at .ensures .0) (c .before .before .before .before .before .inbox-of .ensures .box) (c .before .before .before .before .before .inbox-of .ensures .locals) (c .before .before .before .before .end-of .ensures .0)) (c .before .before .reveal-at .ensures)
 
 pub reveal-spec : {M : Type 1} → statement M
-reveal-spec = tie.close (tie.spec count-requires add-number-at number-at-requires opening-of-requires add-end-of end-of-requires add-end-of-2 end-of-requires-2 reveal-at-requires same-length returns)
+reveal-spec = tie.close (tie.spec count-requires add-number-at number-at-requires inbox-of-requires add-end-of end-of-requires reveal-at-requires same-length returns)
