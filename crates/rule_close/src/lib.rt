@@ -5,7 +5,7 @@ ghost use lib.ListN.{length};
 ghost use Rattle.mem_words.specs.Words.{words, word};
 ghost use Rattle.mem_tallies.specs.Tallies.{if-first, Tallied};
 ghost use Rattle.rule_words.specs.Scans.{closes, deeper, close};
-ghost use Rattle.rule_close.specs.Pieces.{end-one, opening-one, InPiece, AheadOf};
+ghost use Rattle.rule_close.specs.Pieces.{end-one, place-one, inner-one, InPiece, AheadOf};
 use mem_words::Word;
 
 // How far the scan is, and how many brackets are open inside the one that is to close.
@@ -14,7 +14,8 @@ pub struct Ahead {
     pub depth: usize,
 }
 
-// 1 where the bytes are those of an `End`, and `m` marks the first of them. No branch stays in the machine's code.
+// 1 where the bytes are those of an `End`, and `m` marks the first of them. No branch stays in the machine's code, and loops over
+// one test are done by vectors.
 fn one_end(m: u8, c: u8, lo: u8, hi: u8) -> u8
     ensures { λ r. ⌜ (r ≡ if-first m (end-one (word c (lo + hi * 256)))) × (r ≤ 1) ⌝ }
 {
@@ -30,23 +31,36 @@ fn one_end(m: u8, c: u8, lo: u8, hi: u8) -> u8
     if lo == 0 { 1 } else { 0 }
 }
 
-// Likewise where they are those of a word that opens a bracket.
-fn one_opening(m: u8, c: u8, lo: u8, hi: u8) -> u8
-    ensures { λ r. ⌜ (r ≡ if-first m (opening-one (word c (lo + hi * 256)))) × (r ≤ 1) ⌝ }
+// Likewise where they are those of a word that opens a place.
+fn one_place(m: u8, c: u8, lo: u8, hi: u8) -> u8
+    ensures { λ r. ⌜ (r ≡ if-first m (place-one (word c (lo + hi * 256)))) × (r ≤ 1) ⌝ }
 {
     if m == 0 {
         return 0;
     }
+    if c != 4 {
+        return 0; // another class
+    }
     if hi != 0 {
-        return 0; // neither kind nor sort
+        return 0; // no kind
     }
-    if c == 4 {
-        return if lo < 7 { 1 } else { 0 };
+    if lo < 7 { 1 } else { 0 }
+}
+
+// Likewise where they are those of a word that opens another bracket.
+fn one_inner(m: u8, c: u8, lo: u8, hi: u8) -> u8
+    ensures { λ r. ⌜ (r ≡ if-first m (inner-one (word c (lo + hi * 256)))) × (r ≤ 1) ⌝ }
+{
+    if m == 0 {
+        return 0;
     }
-    if c == 5 {
-        return if lo < 13 { 1 } else { 0 };
+    if c != 5 {
+        return 0; // another class
     }
-    0
+    if hi != 0 {
+        return 0; // no sort
+    }
+    if lo < 13 { 1 } else { 0 }
 }
 
 // How many of the sixteen words from `i` on are an `End`; `m` marks the bytes with which words begin.
@@ -65,17 +79,33 @@ fn ends(ws: &[u8], i: usize, m: &[u8]) -> u8
     s
 }
 
-// How many of them open a bracket.
-fn openings(ws: &[u8], i: usize, m: &[u8]) -> u8
+// How many of them open a place.
+fn places(ws: &[u8], i: usize, m: &[u8]) -> u8
     requires { ⌜ InPiece (now ws) i (now m) ⌝ }
-    ensures { λ r. ⌜ Tallied opening-one (now (ws .entry)) i 48 r ⌝ }
+    ensures { λ r. ⌜ Tallied place-one (now (ws .entry)) i 48 r ⌝ }
 {
     let j = 3 * i;
     let mut s: u8 = 0;
     let mut k = 0;
     while k < 48 {
         let x = j + k;
-        s += one_opening(m[k], ws[x], ws[x + 1], ws[x + 2]);
+        s += one_place(m[k], ws[x], ws[x + 1], ws[x + 2]);
+        k += 1;
+    }
+    s
+}
+
+// How many of them open another bracket.
+fn inners(ws: &[u8], i: usize, m: &[u8]) -> u8
+    requires { ⌜ InPiece (now ws) i (now m) ⌝ }
+    ensures { λ r. ⌜ Tallied inner-one (now (ws .entry)) i 48 r ⌝ }
+{
+    let j = 3 * i;
+    let mut s: u8 = 0;
+    let mut k = 0;
+    while k < 48 {
+        let x = j + k;
+        s += one_inner(m[k], ws[x], ws[x + 1], ws[x + 2]);
         k += 1;
     }
     s
@@ -84,7 +114,7 @@ fn openings(ws: &[u8], i: usize, m: &[u8]) -> u8
 // Passes over pieces of sixteen words, as long as sixteen brackets or more are open: none of these words closes the one that is looked
 // for.
 fn pass(ws: &[u8], i: usize, depth: usize) -> Ahead
-    requires { ⌜ (i < length (words (now ws))) × (depth ≤ i) ⌝ }
+    requires { ⌜ (i < length (words (now ws))) × (depth ≤ 2 * i) ⌝ }
     ensures { λ r. ⌜ AheadOf (words (now (ws .entry))) i depth r ⌝ }
 {
     let n = mem_words::count(ws);
@@ -96,8 +126,9 @@ fn pass(ws: &[u8], i: usize, depth: usize) -> Ahead
             return Ahead { at: j, depth: d };
         }
         let e = ends(ws, j, &m) as usize;
-        let o = openings(ws, j, &m) as usize;
-        d = d + o - e;
+        let p = places(ws, j, &m) as usize;
+        let q = inners(ws, j, &m) as usize;
+        d = d + p + q - e;
         j += 16;
     }
     Ahead { at: j, depth: d }
@@ -105,7 +136,7 @@ fn pass(ws: &[u8], i: usize, depth: usize) -> Ahead
 
 // Likewise; where few are open nothing is passed.
 fn onward(ws: &[u8], j: usize, d: usize) -> Ahead
-    requires { ⌜ (j < length (words (now ws))) × (d ≤ j) ⌝ }
+    requires { ⌜ (j < length (words (now ws))) × (d ≤ 2 * j) ⌝ }
     ensures { λ r. ⌜ AheadOf (words (now (ws .entry))) j d r ⌝ }
 {
     if d < 16 {

@@ -1,6 +1,6 @@
 use borrow.Author.Needs.{needs}
 use mathlib.Core.Path.{_≡_, refl, sym, _∙_}
-use Prim.Native.Nat.{_+_, _-_, _<_, _≤_}
+use Prim.Native.Nat.{_+_, _-_, _*_, _<_, _≤_}
 use native.Mathlib.Omega.{arith}
 use lib.ListN.{length, drop}
 use Rattle.mem_words.specs.Words.{words, length-words}
@@ -17,7 +17,7 @@ use Rattle.rule_close.proofs.is_closing.Reads as is-closing-reads
 use Rattle.rule_close.proofs.onward.Reads as onward-reads
 
 abbrev Inv-loop : tie.InvT-loop
-Inv-loop ws i n j₀ d₀ j d = (i < j) × (j ≤ n) × (d ≤ j) × (j + upto (drop j (words ws)) d ≡ i + 1 + upto (drop (i + 1) (words ws)) 0)
+Inv-loop ws i n j₀ d₀ j d = (i < j) × (j ≤ n) × (d ≤ 2 * j) × (j + upto (drop j (words ws)) d ≡ i + 1 + upto (drop (i + 1) (words ws)) 0)
 
 abbrev μ-loop : tie.MeasureT-loop
 μ-loop ws i n j₀ d₀ j d = n - j
