@@ -61,7 +61,10 @@ enum akl_refusal {
     AKL_NOT_A_LINE = 18       /* steps line not as described */
 };
 
-/* The state of a configuration: no box is left; every box is an answer; steps are still to be done. */
+/*
+ * The state of a configuration: failed, its top or-box is empty; final, every member of it is an answer; open, neither: there may be
+ * steps left to do, or none that is possible, and answers may stand already.
+ */
 enum akl_state_number { AKL_FAILED = 0, AKL_FINAL = 1, AKL_OPEN = 2 };
 
 /*
