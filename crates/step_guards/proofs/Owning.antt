@@ -11,7 +11,7 @@ use Rattle.mem_words.specs.declared.Word.{Word}
 use Rattle.mem_words.specs.Words.{words}
 use Rattle.mem_sorts.specs.declared.Kind.the-variants.{And}
 use Rattle.mem_numbers.specs.Numbers.{shorts}
-use Rattle.mem_parts.specs.Parts.{Outside, outside-wide, cut-left, cut-right}
+use Rattle.mem_parts.specs.Parts.{Outside, outside-then, outside-wide, cut-left, cut-right}
 use Rattle.solve_tells.specs.Draws.{Drawn}
 use Rattle.solve_quiet.specs.Solver.{Marking}
 use Rattle.work_tables.specs.Tables.{logOf, localsOf, Laid, laid-after, tried-log, tried-locals, CanRead}
@@ -157,5 +157,6 @@ module _ {W : List Word} {X A : List ℕ} {j k used n a : ℕ} (c : CanAskOwn W 
       quiet = asked;
       still = λ g from d s. given-still own-laid-then (u .rest) (silent-still q (given-still (s .at .walk .laid) (p .rest) s));
       unmarked = λ m. unmarked-now u (subst (λ (l : List ℕ). Marking l (locals-at W j)) (sym (tried-locals (q .rest))) (marking m));
+      rest = outside-then (outside-then (outside-wide 0 466944 (omega arith) (omega arith) (p .rest)) (outside-wide 0 466944 (omega arith) (omega arith) (q .rest))) (outside-wide 0 466944 (omega arith) (omega arith) (u .rest));
       laid = laid-after own-laid-then (u .rest);
     }

@@ -6,12 +6,14 @@ use mathlib.Core.List.{List, []}
 use Prim.Native.Nat.{ℕ, _+_, _≤_, _<_}
 use Rattle.mem_words.specs.declared.Word.{Word}
 use Rattle.mem_sorts.specs.declared.Kind.the-variants.{And, Cond, Commit}
+use Rattle.mem_parts.specs.Parts.{Outside}
 use Rattle.solve_quiet.specs.Solver.{Marking}
 use Rattle.work_tables.specs.Tables.{localsOf, Laid}
 use Rattle.rule_words.specs.Scans.{close}
 use Rattle.rule_effects.specs.Effects.{behind}
 use Rattle.rule_effects.specs.Conditions.{kind-at}
 use Rattle.rule_ranges.specs.Asked.{QuietIn}
+use Rattle.step_path.specs.Paths.{Path}
 use Rattle.step_turn.specs.Stood.{CanWalk, Stood}
 use Rattle.step_walk.specs.Calm.{BoxesCalm}
 use Rattle.step_waits.specs.Waits.{Waits}
@@ -43,14 +45,16 @@ pub record OwnAsked (W : List Word) (L : List ℕ) (j k used n a : ℕ) (X : Lis
   pub quiet : (g from d : ℕ) → g ≤ j → kind-at W j And ≡ true → Stood W g from L (j + 1) d k used n a → Marking (localsOf L) [] → QuietIn W j j r
   pub still : (g from d : ℕ) → Stood W g from L (j + 1) d k used n a → Stood W g from X (j + 1) d k used n a
   pub unmarked : Marking (localsOf L) [] → Marking (localsOf X) []
+  pub rest : Outside 0 466944 L X
   pub laid : Laid X
 
 -- none of those before j is quiet
 pub record RestTo (W : List Word) (g j : ℕ) : Type 0 where
   pub at : (i : ℕ) → g ≤ i → i < j → Waits W g i → QuietIn W i i false
 
--- the walk is at j, and nothing is marked
-pub record Asks (W : List Word) (g from : ℕ) (X : List ℕ) (j d k used n a : ℕ) : Type 0 where
+-- the walk is at j, where h brackets are open, and nothing is marked
+pub record Asks (W : List Word) (g from : ℕ) (X : List ℕ) (j d k used n a h : ℕ) : Type 0 where
   pub stood : Stood W g from X j d k used n a
+  pub path : Path W g X j h
   pub unmarked : Marking (localsOf X) []
   pub rest : RestTo W g j

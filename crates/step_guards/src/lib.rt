@@ -42,7 +42,7 @@ fn own_quiet(t: &[u8], w: &mut [u8], j: usize, k: usize, used: usize, n: usize, 
 
 // Goes over the words of the goal at `g`, whose environment was told up to the mark (`u`, `n`, `a`).
 fn walk(t: &[u8], w: &mut [u8], g: usize, u: usize, n: usize, a: usize) -> bool
-    requires { ⌜ CanWalk (words (now t)) g × Asks (words (now t)) g n (now w) g 0 0 u n a ⌝ }
+    requires { ⌜ CanWalk (words (now t)) g × Asks (words (now t)) g n (now w) g 0 0 u n a 0 ⌝ }
     ensures { λ r. ⌜ GuardsRest (words (now (t .entry))) g r × Laid (now (w .exit)) ⌝ }
 {
     let e = rule_close::end_of(t, g);
@@ -52,10 +52,13 @@ fn walk(t: &[u8], w: &mut [u8], g: usize, u: usize, n: usize, a: usize) -> bool
     let mut x = u;
     let mut y = n;
     let mut z = a;
+    let mut h: usize = 0;
     while j < e {
+        let v = step_waits::waits(t, w, g, j, h);
         let Next::On(d1, k1, x1, y1, z1) = step_turn::turn(t, w, j, d, k, x, y, z) else {
             return false; // the box at j has no solution
         };
+        h = step_path::pass(t, w, j, h);
         let i = j;
         d = d1;
         k = k1;
@@ -63,7 +66,7 @@ fn walk(t: &[u8], w: &mut [u8], g: usize, u: usize, n: usize, a: usize) -> bool
         y = y1;
         z = z1;
         j += 1;
-        if step_waits::waits(t, g, i) {
+        if v {
             if own_quiet(t, w, i, k, x, y, z) {
                 return false; // the rule applies
             }

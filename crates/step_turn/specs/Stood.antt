@@ -10,6 +10,7 @@ use Rattle.constraint.specs.Constraint.{Satisfiable}
 use Rattle.mem_words.specs.declared.Word.{Word}
 use Rattle.mem_words.specs.declared.Word.the-variants.{Bad}
 use Rattle.mem_sorts.specs.declared.Kind.the-variants.{And}
+use Rattle.mem_parts.specs.Parts.{Outside}
 use Rattle.solve_tells.specs.Draws.{Drawn}
 use Rattle.work_tables.specs.Tables.{logOf, localsOf, Laid}
 use Rattle.work_marks.specs.Marks.{Mark, allTold}
@@ -65,8 +66,9 @@ abbrev pub Goes : List Word → ℕ → ℕ → ℕ → List ℕ → Next → Ty
 Goes W g from j X (On d k used n a) = Stood W g from X (j + 1) d k used n a
 Goes W g from j X Fails = Unsolved W j
 
--- it goes on behind the word for every goal for which it was so; what is marked as local is as it was
+-- it goes on behind the word for every goal for which it was so; what is marked as local is as it was, and what lies behind the stack
 pub record Turned (W : List Word) (L : List ℕ) (j d k used n a : ℕ) (X : List ℕ) (r : Next) : Type 0 where
   pub goes : (g from : ℕ) → CanWalk W g → Stood W g from L j d k used n a → j < close W g → Goes W g from j X r
   pub locals : localsOf X ≡ localsOf L
+  pub rest : Outside 0 466944 L X
   pub laid : Laid X

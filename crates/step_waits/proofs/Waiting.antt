@@ -14,13 +14,17 @@ use Rattle.mem_words.specs.declared.Word.the-variants.{End, Free, Level, Num, P
 use Rattle.mem_sorts.specs.declared.Kind.the-variants.{Or, And, Guarded, Member, Wait, Cond, Commit}
 use Rattle.mem_sorts.specs.declared.Sort.{Sort}
 use Rattle.mem_sorts.specs.declared.Sort.the-variants as sorts
-use Rattle.rule_words.specs.Scans.{around}
+use Rattle.rule_words.specs.Scans.{opens, around}
 use Rattle.rule_effects.specs.Conditions.{kind-in, kind-at, solved-at, right-at, left-at, one-at}
 use Rattle.rule_kinds.specs.Kinds.{sort-takes, word-takes, or-takes, place-takes, takes-in}
+use Rattle.rule_ranges.proofs.Inside.{around-before}
 use Rattle.rule_applies.specs.declared.Asks.{Asks}
 use Rattle.rule_applies.specs.declared.Asks.the-variants.{Never, Always, Quiet, Satisfiable}
 use Rattle.rule_applies.specs.Asking.{only-if, asks-6, asks-7, asks-8, asks-in}
-use Rattle.step_waits.specs.Waits.{Sole, Operator, Beside, Waits, IsSole, Operates, IsBeside, IsWaiting}
+use Rattle.work_tables.specs.Tables.{CanRead}
+use Rattle.step_path.specs.Paths.{pathOf}
+use Rattle.step_path.proofs.Passing.{path-few, path-around}
+use Rattle.step_waits.specs.Waits.{Sole, Operator, Beside, Waits, CanWait, IsSole, Operates, IsBeside, IsWaiting}
 
 differ : false ≡ true → ⊥
 differ z = let y : _≡_ {A = ℕ} 0 1 = ap (λ (x : Bool). elim x [ true ↦ 1 | false ↦ 0 ]) z in omega (arith, y)
@@ -166,6 +170,24 @@ guarded-takes W c = go (getD W c Bad)
     go (Inner s) h = absurd (differ h)
     go Bad h = absurd (differ h)
 
+guarded-opens : (W : List Word) (i : ℕ) → kind-at W i Guarded ≡ true → opens (getD W i Bad) 0 ≡ true
+unfolding kind-at
+guarded-opens W i = go (getD W i Bad)
+  where
+    go : (w : Word) → eqb (kind-in w) 2 ≡ true → opens w 0 ≡ true
+    go End h = absurd (differ h)
+    go (Free v) h = absurd (differ h)
+    go (Level v) h = absurd (differ h)
+    go (Num v) h = absurd (differ h)
+    go (Place k) h = refl
+    go (Inner s) h = refl
+    go Bad h = absurd (differ h)
+
+-- what is around a position stands before it
+around-low : (W : List Word) (j : ℕ) → 0 < j → around W j < j
+around-low W zero h = absurd (omega (arith, h))
+around-low W (suc j) h = let a = around-before W j in omega (arith, a)
+
 -- statements and or-boxes are neither
 sort-no : (s : Sort) → (sort-takes s ≡ 5) ⊎ (sort-takes s ≡ 6) → ⊥
 sort-no sorts.Locals (inl h) = omega (arith, h)
@@ -299,6 +321,22 @@ module _ (W : List Word) (g j : ℕ) where
   -- a guard is one word behind its guarded goal
   pub solved-behind : g + 2 ≤ j → solved-at W j ≡ true → solved-at W (j - 1 + 1) ≡ true
   solved-behind l so = let e : j - 1 + 1 ≡ j = omega arith in ap (solved-at W) e ∙ so
+
+  -- the choice-box is around the guarded goal
+  module _ (X : List ℕ) (h : ℕ) (c : CanWait W X g j h) (l : g + 2 ≤ j) (b : Bool) (eb : b ≡ kind-at W (j - 1) Guarded) (zb : b ≡ true) where
+    around-it : (2 ≤ h) × (getD (pathOf X) (h - 2) 0 ≡ around W (j - 1))
+    around-it = path-around (c .path) (j - 1) refl l (guarded-opens W (j - 1) (sym eb ∙ zb))
+
+    pub two-open : 2 ≤ h
+    two-open = around-it .0
+
+    pub can-look : CanRead X 28672 (h - 2)
+    can-look = let p = path-few (c .path) in record { laid = c .laid; inside = omega (arith, p, c .low, c .few, two-open) }
+
+    pub choice-around : (r : ℕ) → r ≡ getD (pathOf X) (h - 2) 0 → (r ≡ around W (j - 1)) × (r ≤ j - 1)
+    choice-around r e =
+        let q : r ≡ around W (j - 1) = e ∙ around-it .1 in
+        (q, omega (arith, q, around-low W (j - 1) (omega (arith, l))))
 
   -- the guarded goal is not inside the goal, or none begins there
   pub beside-outside : j < g + 2 → IsBeside W g j false

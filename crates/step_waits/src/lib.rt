@@ -6,7 +6,7 @@ ghost use lib.ListN.{length};
 ghost use Rattle.mem_words.specs.Words.{words};
 ghost use Rattle.rule_words.specs.Scans.{around};
 ghost use Rattle.rule_effects.specs.Conditions.{solved-at};
-ghost use Rattle.step_waits.specs.Waits.{IsSole, Operates, IsBeside, IsWaiting};
+ghost use Rattle.step_waits.specs.Waits.{CanWait, IsSole, Operates, IsBeside, IsWaiting};
 use mem_sorts::Kind;
 
 // Whether the solved guard at `j` is the only one of a choice-box inside the goal at `g`, whose operator is not `?`.
@@ -45,9 +45,9 @@ fn operator(t: &[u8], c: usize, i: usize) -> bool
     false
 }
 
-// Whether rule 7 or 8 asks for the solved guard at `j` at a guarded goal inside the goal at `g`.
-fn beside(t: &[u8], g: usize, j: usize) -> bool
-    requires { ⌜ (g ≤ j) × (j < length (words (now t))) × (solved-at (words (now t)) j ≡ true) ⌝ }
+// Whether rule 7 or 8 asks for the solved guard at `j` at a guarded goal inside the goal at `g`; `h` brackets of it are open there.
+fn beside(t: &[u8], w: &[u8], g: usize, j: usize, h: usize) -> bool
+    requires { ⌜ CanWait (words (now t)) (now w) g j h × (solved-at (words (now t)) j ≡ true) ⌝ }
     ensures { λ r. ⌜ IsBeside (words (now (t .entry))) g j r ⌝ }
 {
     let n = mem_words::count(t);
@@ -56,22 +56,22 @@ fn beside(t: &[u8], g: usize, j: usize) -> bool
     }
     let i = j - 1;
     if rule_shapes::is_kind(t, i, Kind::Guarded) {
-        let c = rule_around::opening_of(t, i);
+        let c = step_path::get(w, h - 2);
         return operator(t, c, i);
     }
     false // no guard
 }
 
-// Whether rule 6, 7 or 8 asks, at a place inside the goal at `g`, if the guard at `j` is quiet.
-pub fn waits(t: &[u8], g: usize, j: usize) -> bool
-    requires { ⌜ (g ≤ j) × (j < length (words (now t))) ⌝ }
+// Whether rule 6, 7 or 8 asks, at a place inside the goal at `g`, if the guard at `j` is quiet; `h` brackets of the goal are open there.
+pub fn waits(t: &[u8], w: &[u8], g: usize, j: usize, h: usize) -> bool
+    requires { ⌜ CanWait (words (now t)) (now w) g j h ⌝ }
     ensures { λ r. ⌜ IsWaiting (words (now (t .entry))) g j r ⌝ }
 {
     if rule_guards::solved(t, j) {
         if sole(t, g, j) {
             return true; // rule 6
         }
-        return beside(t, g, j); // rule 7 or 8
+        return beside(t, w, g, j, h); // rule 7 or 8
     }
     false // not solved
 }

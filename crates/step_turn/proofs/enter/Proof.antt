@@ -2,7 +2,7 @@
 use mathlib.Core.Path.{_∙_}
 use native.Mathlib.Omega.{arith}
 use Rattle.mem_words.specs.Words.{words, length-words}
-use Rattle.mem_parts.specs.Parts.{cut-right}
+use Rattle.mem_parts.specs.Parts.{outside-then, outside-wide, cut-right}
 use Rattle.work_tables.specs.Tables.{localsOf, laid-after}
 use Rattle.step_turn.proofs.Entering.{enter-can, enter-none, push-can, enter-done, enter-locals}
 use borrow.Author.Needs.{needs}
@@ -34,6 +34,7 @@ returns : tie.Need-returns
 returns c = record {
       goes = λ g o h s l. enter-done (words (c .before .before .before .before .before .before .before .before .before .before .before .before .before .args .t .now)) g o _ (c .before .before .before .before .before .before .before .before .before .before .before .before .before .args .j) _ _ _ _ _ h s l (c .before .before .before .before .before .before .before .before .before .before .before .before .before .pre .1) _ _ _ _ (c .before .before .before .before .before .before .before .before .before .tell-from .result) (c .before .before .before .before .before .r .given .1) (c .before .before .before .before .before .before .before .before .before .tell-from .ensures) _ (c .before .before .push .ensures);
       locals = enter-locals (words (c .before .before .before .before .before .before .before .before .before .before .before .before .before .args .t .now)) (c .before .before .before .before .before .before .before .before .before .before .before .before .before .pre .0 .goal) _ _ (c .before .before .before .before .before .before .before .before .before .before .before .before .before .args .j) _ _ _ _ _ (c .before .before .before .before .before .before .before .before .before .before .before .before .before .pre .0 .can) (c .before .before .before .before .before .before .before .before .before .before .before .before .before .pre .0 .stood) (c .before .before .before .before .before .before .before .before .before .before .before .before .before .pre .0 .low) (c .before .before .before .before .before .before .before .before .before .before .before .before .before .pre .1) _ _ _ _ (c .before .before .before .before .before .before .before .before .before .tell-from .result) (c .before .before .before .before .before .r .given .1) (c .before .before .before .before .before .before .before .before .before .tell-from .ensures) _ (c .before .before .push .ensures);
+      rest = outside-then (outside-wide 0 466944 (omega arith) (omega arith) (c .before .before .before .before .before .before .before .before .before .tell-from .ensures .rest)) (outside-wide 0 466944 (omega arith) (omega arith) (c .before .before .push .ensures .rest));
       laid = laid-after (push-can (words (c .before .before .before .before .before .before .before .before .before .before .before .before .before .args .t .now)) (c .before .before .before .before .before .before .before .before .before .before .before .before .before .pre .0 .goal) _ _ (c .before .before .before .before .before .before .before .before .before .before .before .before .before .args .j) _ _ _ _ _ (c .before .before .before .before .before .before .before .before .before .before .before .before .before .pre .0 .can) (c .before .before .before .before .before .before .before .before .before .before .before .before .before .pre .0 .stood) (c .before .before .before .before .before .before .before .before .before .before .before .before .before .pre .0 .low) (c .before .before .before .before .before .before .before .before .before .before .before .before .before .pre .1) _ _ _ _ (c .before .before .before .before .before .before .before .before .before .tell-from .result) (c .before .before .before .before .before .r .given .1) (c .before .before .before .before .before .before .before .before .before .tell-from .ensures) .laid) (c .before .before .push .ensures .rest);
     }
 
@@ -45,6 +46,7 @@ unfolding localsOf
 returns-2 c = record {
       goes = λ g o h s l. enter-none (words (c .before .before .before .before .before .before .before .before .args .t .now)) g o _ (c .before .before .before .before .before .before .before .before .args .j) _ _ _ _ _ h s l (c .before .before .before .before .before .before .before .before .pre .1) _ (c .before .before .before .before .tell-from .result) (c .enum-told .given .1) (c .before .before .before .before .tell-from .ensures);
       locals = cut-right 335872 401408 (omega arith) (c .before .before .before .before .tell-from .ensures .rest);
+      rest = outside-wide 0 466944 (omega arith) (omega arith) (c .before .before .before .before .tell-from .ensures .rest);
       laid = laid-after (c .before .before .before .before .before .before .before .before .pre .0 .stood .at .walk .laid) (c .before .before .before .before .tell-from .ensures .rest);
     }
 
