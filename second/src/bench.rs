@@ -244,6 +244,28 @@ pub fn nest(boxes: usize) -> Case {
     }
 }
 
+/// Splitting beside choice-boxes of `->` whose guards are all solved and not
+/// quiet, the top named, under a store of some constraints.
+pub fn conditions(boxes: usize, guards: usize, links: usize) -> Case {
+    let clauses = vec!["X=a->true"; guards].join(";");
+    let rules = format!("q(X) := (X=a?true;X=b?true).\nc(X) := ({clauses}).\n");
+    let query = format!("{}q(X){}.", "Z=f(Y),".repeat(links), ",c(X)".repeat(boxes));
+    let mut before: Vec<Step> = apart(2, links + 1 + boxes).collect();
+    before.extend(vec![step(1, 2); links]);
+    let mut at = 2;
+    for count in std::iter::once(2).chain(std::iter::repeat_n(guards, boxes)) {
+        before.extend([step(2, at), step(5, at)]);
+        before.extend((0..count).map(|i| step(1, at + 3 + 2 * i)));
+        at += 1 + 2 * count;
+    }
+    Case {
+        what: "rule 12 beside guards of `->`, the top named",
+        checker: checker(&rules, &query, &before),
+        steps: vec![splitting_step(12, 2, 0)],
+        copies: 300,
+    }
+}
+
 impl Case {
     /// Nanoseconds a step, the least of all copies: others use the machine too.
     fn measure(&self) -> f64 {

@@ -5,7 +5,7 @@
 //! store in bytes, checks that it is well formed, and leaves its working slice zero; the second checker goes on from its own
 //! configuration, with the stores that it told to its solver before.
 
-use second::bench::{nest, Case, KINDS};
+use second::bench::{conditions, nest, Case, KINDS};
 use second::fuzz::walk;
 use second::store::write;
 use std::hint::black_box;
@@ -112,5 +112,13 @@ fn main() {
         let case = nest(boxes);
         let m = measure(&case);
         println!("| {boxes} | {} | {:.0} | {:.0} | {:.0} |", case.checker.config.parts, m.single, checked(&case), m.second);
+    }
+    println!();
+    println!("| Choice-boxes of `->` | Guards of each | Parts | one call, ns | of it the check of the store | second checker |");
+    println!("|---|---|---|---|---|---|");
+    for (boxes, guards, links) in [(1, 2, 100), (20, 2, 100), (80, 2, 100), (160, 2, 100), (1, 40, 100), (1, 160, 100), (1, 320, 100)] {
+        let case = conditions(boxes, guards, links);
+        let m = measure(&case);
+        println!("| {boxes} | {guards} | {} | {:.0} | {:.0} | {:.0} |", case.checker.config.parts, m.single, checked(&case), m.second);
     }
 }

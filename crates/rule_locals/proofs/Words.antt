@@ -1,25 +1,28 @@
 -- Words marked one after another. Assumes nothing.
 use mathlib.Core.Path.{_≡_, refl, ap, sym, _∙_, subst}
 use mathlib.Core.Bool.{Bool, true, false, cond}
+use mathlib.Core.Logic.{_⊎_, inl, inr}
 use mathlib.Core.List.{List, [], _∷_, _++_, append-assoc, append-nil}
 use Prim.Native.Nat.{ℕ, suc, _+_, _-_, _≤_, _<_}
 use native.Mathlib.Omega.{arith}
 use native.Mathlib.Numerals.{add-one}
-use lib.ListN.{length, getD, take, drop, length-append, length-drop}
-use lib.Seq.{drop-cons, take-all, take-at, getD-append-add}
+use native.Mathlib.Decide.{ℕ-discrete}
+use lib.ListN.{length, getD, take, drop, length-drop}
+use lib.Seq.{drop-cons, take-all}
+use Rattle.constraint.specs.Constraint.{In}
+use Rattle.constraint.proofs.Lists.{In-append}
+use Rattle.mem_numbers.specs.Stored.{stored-same, stored-other}
 use Rattle.mem_words.specs.declared.Word.{Word}
 use Rattle.mem_words.specs.declared.Word.the-variants.{End, Free, Level, Num, Place, Inner, Bad}
-use Rattle.mem_parts.specs.Parts.{Outside, Zeroed, outside-then}
+use Rattle.mem_parts.specs.Parts.{Outside, outside-then}
 use Rattle.solve_fields.specs.Read.{Vars, varOf, isVar}
-use Rattle.work_tables.specs.Tables.{Laid}
+use Rattle.work_tables.specs.Tables.{localsOf, Laid, length-locals}
 use Rattle.work_tables.specs.Writes.{PutLocal}
-use Rattle.work_judge.specs.Judging.{Locals}
-use Rattle.work_judge.proofs.Locals.{locals-none, locals-next}
 use Rattle.rule_words.specs.Scans.{close}
 use Rattle.rule_words.specs.Pieces.{cut}
 use Rattle.rule_effects.specs.Effects.{behind}
 use Rattle.rule_ranges.specs.Ranges.{locals-in, locals-at}
-use Rattle.rule_locals.specs.Inside.{inside, here, Adds, EndsAt, Marked}
+use Rattle.rule_locals.specs.Inside.{inside, here, Given, Adds, EndsAt, Marked}
 
 -- one word
 pub in-word : (b : Bool) (x : Word) (r : List Word) → locals-in b (x ∷ r) ≡ here b x ++ locals-in (inside b x) r
@@ -42,32 +45,37 @@ in-word false Bad r = refl
 same-out : (L : List ℕ) → Outside 335872 401408 L L
 same-out L = record { before = refl; after = refl; long = refl }
 
-adds-nothing : (L : List ℕ) (b : Bool) (x : Word) → here b x ≡ [] → Adds L b x L
-adds-nothing L b x e = record { more = λ A vs m. subst (λ (us : List ℕ). Locals A us L) (sym (append-nil vs) ∙ ap (λ (us : List ℕ). vs ++ us) (sym e)) m; rest = same-out L }
+given-none : (A : List ℕ) (v : ℕ) → Given A [] v A
+given-none A v = record { inside = λ x i. absurd i; others = λ x n. refl; rest = same-out A }
 
-pub adds-outside : (L : List ℕ) (b : Bool) (x : Word) → b ≡ false → Adds L b x L
-adds-outside L b x e = adds-nothing L b x (ap (λ (c : Bool). here c x) e)
-
-pub adds-no-variable : (L : List ℕ) (b : Bool) (x : Word) (k : Bool) → k ≡ isVar x → k ≡ false → Adds L b x L
-adds-no-variable L true x k e f = adds-nothing L true x (ap (λ (c : Bool). cond c (varOf x ∷ []) []) (sym e ∙ f))
-adds-no-variable L false x k e f = adds-nothing L false x refl
-
-pub adds-local : (L X : List ℕ) (b : Bool) (x : Word) (k : Bool) (v : ℕ) → Laid L → v < 65536 → b ≡ true → k ≡ isVar x → k ≡ true → v ≡ varOf x → PutLocal L v 1 X → Adds L b x X
-adds-local L X b x k v h l eb ek kt ev p = record { more = λ A vs m. subst (λ (us : List ℕ). Locals A (vs ++ us) X) (sym one) (go A vs m); rest = p .rest }
+given-next : (A vs X Y : List ℕ) (u v : ℕ) → Laid X → u < 65536 → Given A vs v X → PutLocal X u v Y → Given A (vs ++ (u ∷ [])) v Y
+given-next A vs X Y u v h l m p = record {
+  inside = λ x i. got x (ℕ-discrete x u) (In-append x vs (u ∷ []) .0 i);
+  others = λ x n. stored-other x 0 (p .locals) (λ q. n (In-append x vs (u ∷ []) .1 (inr (inl q)))) ∙ m .others x (λ i. n (In-append x vs (u ∷ []) .1 (inl i)));
+  rest = outside-then (m .rest) (p .rest);
+}
   where
-    one : here b x ≡ v ∷ []
-    one = ap (λ (c : Bool). here c x) eb ∙ ap (λ (c : Bool). cond c (varOf x ∷ []) []) (sym ek ∙ kt) ∙ ap (λ (y : ℕ). y ∷ []) (sym ev)
+    got : (x : ℕ) → Dec (x ≡ u) → In x vs ⊎ In x (u ∷ []) → getD (localsOf Y) x 0 ≡ v
+    got x (yes q) i = ap (λ (k : ℕ). getD (localsOf Y) k 0) q ∙ stored-same 0 (p .locals) (omega (arith, length-locals h))
+    got x (no q) (inl i) = stored-other x 0 (p .locals) q ∙ m .inside x i
+    got x (no q) (inr (inl i)) = absurd (q i)
+    got x (no q) (inr (inr i)) = absurd i
 
-    go : (A vs : List ℕ) → Locals A vs L → Locals A (vs ++ (v ∷ [])) X
-    go A vs m =
-        let n : length (vs ++ (v ∷ [])) ≡ length vs + 1 = length-append vs (v ∷ []) in
-        let q : v ≡ getD (vs ++ (v ∷ [])) (length vs) 0 = sym (ap (λ (i : ℕ). getD (vs ++ (v ∷ [])) i 0) (zeroed (length vs)) ∙ getD-append-add vs (v ∷ []) 0 0) in
-        let m′ : Locals A (take (length vs) (vs ++ (v ∷ []))) L = subst (λ (us : List ℕ). Locals A us L) (sym (take-at vs (v ∷ []) (length vs) refl)) m in
-        let la : Laid A = record { long = omega (arith, h .long, m .rest .long) } in
-        subst (λ (us : List ℕ). Locals A us X) (take-all (length vs + 1) (vs ++ (v ∷ [])) (omega arith)) (locals-next A (vs ++ (v ∷ [])) L X (length vs) v la (omega arith) q l m′ p)
-      where
-        zeroed : (i : ℕ) → i ≡ i + 0
-        zeroed i = omega arith
+adds-nothing : (L : List ℕ) (b : Bool) (x : Word) (v : ℕ) → here b x ≡ [] → Adds L b x v L
+adds-nothing L b x v e = record { more = λ A vs m. subst (λ (us : List ℕ). Given A us v L) (sym (append-nil vs) ∙ ap (λ (us : List ℕ). vs ++ us) (sym e)) m; rest = same-out L }
+
+pub adds-outside : (L : List ℕ) (b : Bool) (x : Word) (v : ℕ) → b ≡ false → Adds L b x v L
+adds-outside L b x v e = adds-nothing L b x v (ap (λ (c : Bool). here c x) e)
+
+pub adds-no-variable : (L : List ℕ) (b : Bool) (x : Word) (v : ℕ) (k : Bool) → k ≡ isVar x → k ≡ false → Adds L b x v L
+adds-no-variable L true x v k e f = adds-nothing L true x v (ap (λ (c : Bool). cond c (varOf x ∷ []) []) (sym e ∙ f))
+adds-no-variable L false x v k e f = adds-nothing L false x v refl
+
+pub adds-local : (L X : List ℕ) (b : Bool) (x : Word) (v : ℕ) (k : Bool) (u : ℕ) → Laid L → u < 65536 → b ≡ true → k ≡ isVar x → k ≡ true → u ≡ varOf x → PutLocal L u v X → Adds L b x v X
+adds-local L X b x v k u h l eb ek kt eu p = record { more = λ A vs m. subst (λ (us : List ℕ). Given A (vs ++ us) v X) (sym one) (given-next A vs L X u v h l m p); rest = p .rest }
+  where
+    one : here b x ≡ u ∷ []
+    one = ap (λ (c : Bool). here c x) eb ∙ ap (λ (c : Bool). cond c (varOf x ∷ []) []) (sym ek ∙ kt) ∙ ap (λ (y : ℕ). y ∷ []) (sym eu)
 
 -- where the goal ends
 pub ends-behind : (W : List Word) (g e : ℕ) → e ≡ close W g → e < length W → EndsAt W g (e + 1)
@@ -80,8 +88,8 @@ ends-with W g e n en q h =
     record { same = take-all (close W g + 1 - g) (drop g W) (omega (arith, en, q)) ∙ sym (take-all (n - g) (drop g W) (omega (arith, en))); end = omega (arith, en) }
 
 -- on the way
-pub marked-none : (W : List Word) (g e : ℕ) (L A : List ℕ) → Zeroed 335872 401408 L A → Marked W g e A A g false
-marked-none W g e L A z = record { vs = []; split = refl; locals = locals-none L [] A z }
+pub marked-none : (W : List Word) (g e v : ℕ) (A : List ℕ) → Marked W g e v A A g false
+marked-none W g e v A = record { vs = []; split = refl; given = given-none A v }
 
 cut-cons : (W : List Word) (j e : ℕ) → j < e → e ≤ length W → cut j e W ≡ getD W j Bad ∷ cut (j + 1) e W
 unfolding cut
@@ -93,22 +101,21 @@ cut-nothing : (W : List Word) (j e : ℕ) → e ≤ j → cut j e W ≡ []
 unfolding cut
 cut-nothing W j e h = let k : e - j ≡ 0 = omega arith in ap (λ (n : ℕ). take n (drop j W)) k
 
-pub marked-next : (W : List Word) (g e : ℕ) (A X Y : List ℕ) (j : ℕ) (b c : Bool) (x : Word) → j < e → e ≤ length W → x ≡ getD W j Bad → c ≡ inside b x → Adds X b x Y → Marked W g e A X j b → Marked W g e A Y (j + 1) c
-marked-next W g e A X Y j b c x h l ex ec p m = record {
+pub marked-next : (W : List Word) (g e v : ℕ) (A X Y : List ℕ) (j : ℕ) (b c : Bool) (x : Word) → j < e → e ≤ length W → x ≡ getD W j Bad → c ≡ inside b x → Adds X b x v Y → Marked W g e v A X j b → Marked W g e v A Y (j + 1) c
+marked-next W g e v A X Y j b c x h l ex ec p m = record {
   vs = m .vs ++ here b x;
   split = append-assoc (m .vs) (here b x) (locals-in c (cut (j + 1) e W)) ∙ ap (λ (us : List ℕ). m .vs ++ us) (sym word) ∙ m .split;
-  locals = p .more A (m .vs) (m .locals);
+  given = p .more A (m .vs) (m .given);
 }
   where
     word : locals-in b (cut j e W) ≡ here b x ++ locals-in c (cut (j + 1) e W)
     word = ap (locals-in b) (cut-cons W j e h l ∙ ap (λ (y : Word). y ∷ cut (j + 1) e W) (sym ex)) ∙ in-word b x (cut (j + 1) e W) ∙ ap (λ (d : Bool). here b x ++ locals-in d (cut (j + 1) e W)) (sym ec)
 
-pub marked-all : (W : List Word) (g e : ℕ) (L A X : List ℕ) (j : ℕ) (b : Bool) → e ≤ j → EndsAt W g e → Zeroed 335872 401408 L A → Marked W g e A X j b → Locals L (locals-at W g) X
+pub marked-all : (W : List Word) (g e v : ℕ) (A X : List ℕ) (j : ℕ) (b : Bool) → e ≤ j → EndsAt W g e → Marked W g e v A X j b → Given A (locals-at W g) v X
 unfolding locals-at locals-in
-marked-all W g e L A X j b h q z m =
+marked-all W g e v A X j b h q m =
     let k : m .vs ≡ locals-in false (cut g (behind W g) W) = sym (append-nil (m .vs)) ∙ ap (λ (l : List Word). m .vs ++ locals-in b l) (sym (cut-nothing W j e h)) ∙ m .split ∙ ap (locals-in false) (sym (q .same)) in
-    let n : Locals A (locals-in false (cut g (behind W g) W)) X = subst (λ (us : List ℕ). Locals A us X) k (m .locals) in
-    record { marks = n .marks; rest = outside-then (z .rest) (n .rest) }
+    subst (λ (us : List ℕ). Given A us v X) k (m .given)
 
 -- every variable of the words has a mark
 pub var-low : (W : List Word) (j : ℕ) (x : Word) → Vars W 65536 → x ≡ getD W j Bad → varOf x < 65536

@@ -1,4 +1,4 @@
-// All locals inside a goal of a configuration, marked in the working slice.
+// All locals inside a goal of a configuration, marked in the working slice or unmarked.
 ghost use mathlib.Core.Path.{_≡_};
 ghost use Prim.Native.Nat.{_<_};
 ghost use Rattle.mem_words.specs.Words.{words};
@@ -6,7 +6,7 @@ ghost use Rattle.solve_fields.specs.Read.{Vars, varOf};
 ghost use Rattle.work_tables.specs.Tables.{Laid};
 ghost use Rattle.work_judge.specs.Judging.{Locals};
 ghost use Rattle.rule_ranges.specs.Ranges.{opens-locals, locals-at};
-ghost use Rattle.rule_locals.specs.Inside.{inside, Adds, EndsAt};
+ghost use Rattle.rule_locals.specs.Inside.{inside, Given, Adds, EndsAt};
 use mem_sorts::Sort;
 use mem_words::Word;
 
@@ -46,10 +46,10 @@ fn behind_word(b: bool, x: Word) -> bool
     }
 }
 
-// Marks the word's variable if it is a local.
-fn mark_word(w: &mut [u8], b: bool, x: Word)
-    requires { ⌜ Laid (now w) × (varOf x < 65536) ⌝ }
-    ensures { λ _. ⌜ Adds (now (w .entry)) b x (now (w .exit)) ⌝ }
+// Gives the word's variable the mark `v` if it is a local.
+fn mark_word(w: &mut [u8], b: bool, x: Word, v: usize)
+    requires { ⌜ Laid (now w) × (varOf x < 65536) × (v < 256) ⌝ }
+    ensures { λ _. ⌜ Adds (now (w .entry)) b x v (now (w .exit)) ⌝ }
 {
     if !b {
         return;
@@ -57,8 +57,8 @@ fn mark_word(w: &mut [u8], b: bool, x: Word)
     if !solve_fields::is_var(x) {
         return;
     }
-    let v = solve_fields::var_of(x);
-    work_tables::local_put(w, v, 1);
+    let i = solve_fields::var_of(x);
+    work_tables::local_put(w, i, v);
 }
 
 // Where the words of the goal at `g` end.
@@ -73,19 +73,27 @@ fn end_at(t: &[u8], g: usize) -> usize
     n
 }
 
+// Gives all locals inside the goal at `g` the mark `v`, 1 or 0 for none; the other variables keep theirs.
+pub fn give_inside(t: &[u8], w: &mut [u8], g: usize, v: usize)
+    requires { ⌜ Laid (now w) × Vars (words (now t)) 65536 × (v < 256) ⌝ }
+    ensures { λ _. ⌜ Given (now (w .entry)) (locals-at (words (now (t .entry))) g) v (now (w .exit)) ⌝ }
+{
+    let e = end_at(t, g);
+    let mut j = g;
+    let mut b = false;
+    while j < e {
+        let x = mem_get::get(t, j);
+        mark_word(w, b, x, v);
+        b = behind_word(b, x);
+        j += 1;
+    }
+}
+
 // Marks all locals inside the goal at `g`, and no other variables.
 pub fn mark_inside(t: &[u8], w: &mut [u8], g: usize)
     requires { ⌜ Laid (now w) × Vars (words (now t)) 65536 ⌝ }
     ensures { λ _. ⌜ Locals (now (w .entry)) (locals-at (words (now (t .entry))) g) (now (w .exit)) ⌝ }
 {
     mem_parts::zero(w, 335872, 401408);
-    let e = end_at(t, g);
-    let mut j = g;
-    let mut b = false;
-    while j < e {
-        let x = mem_get::get(t, j);
-        mark_word(w, b, x);
-        b = behind_word(b, x);
-        j += 1;
-    }
+    give_inside(t, w, g, 1);
 }

@@ -1,2 +1,3 @@
 pub mod Walkable
 pub mod Resting
+pub mod Guarding

@@ -5,17 +5,16 @@ use mathlib.Core.List.{List, [], _∷_, _++_, append-assoc, append-nil}
 use Prim.Native.Nat.{ℕ, zero, suc, _+_, _-_, _≤_, _<_}
 use native.Mathlib.Numerals.{add-one}
 use native.Mathlib.Omega.{arith}
+use native.Mathlib.Decide.{decLt}
 use lib.ListN.{length, getD, drop}
 use Rattle.mem_words.specs.declared.Word.{Word}
 use Rattle.mem_words.specs.declared.Word.the-variants.{Bad}
-use Rattle.mem_sorts.specs.declared.Kind.the-variants.{And}
 use Rattle.rule_words.specs.Scans.{closes, deeper, opens, upto, close, around}
 use Rattle.rule_words.proofs.Loops.{close-inside, upto-hit, upto-on}
-use Rattle.rule_effects.specs.Conditions.{kind-at}
 use Rattle.rule_ranges.specs.Ranges.{Range, and-its, ranges-from}
 use Rattle.rule_tells.proofs.Scanned.{none-left, next-around}
 use Rattle.step_open.specs.Opened.{Chain, Ahead, Opened}
-use Rattle.step_open.proofs.Turns.{false-true, opening-closes, opening-deeper, closing-closes, closing-deeper, plain-closes, plain-deeper, and-opens, around-in, around-out, around-on}
+use Rattle.step_open.proofs.Turns.{false-true, opening-closes, opening-deeper, closing-closes, closing-deeper, plain-closes, plain-deeper, not-closing, around-in, around-out, around-on}
 
 module _ (W : List Word) (g : ℕ) where
   pub opened-first : Opened W g g []
@@ -78,12 +77,12 @@ module _ (W : List Word) (g : ℕ) where
   opened-keep first j low [] e f p = absurd (false-true (sym e ∙ ap (λ (x : ℕ). opens (getD W x Bad) 0) (opened-none j p) ∙ first))
   opened-keep first j low (o ∷ os) e f p = opened-on j low o os e f p
 
-  -- at the goal's end no and-box begins
-  pub opened-last : (j : ℕ) (os : List ℕ) → j < length W → close W g ≡ j → g < j → Opened W g j os → kind-at W j And ≡ true → ⊥
+  -- at the goal's end a bracket closes
+  pub opened-last : (j : ℕ) (os : List ℕ) → j < length W → close W g ≡ j → g < j → Opened W g j os → closes (getD W j Bad) 0 ≡ false → ⊥
   unfolding Chain Ahead
   opened-last j [] low e h p k = omega (arith, p .chain)
   opened-last j (o ∷ os) low e h p k =
-      let q = upto-on W j (length os) (deeper (getD W j Bad) (length os)) (getD W j Bad) false low refl (opening-closes (getD W j Bad) (length os) (and-opens W j k)) refl refl in
+      let q = upto-on W j (length os) (deeper (getD W j Bad) (length os)) (getD W j Bad) false low refl (not-closing (getD W j Bad) (length os) k) refl refl in
       omega (arith, p .ahead, q)
 
   -- some are open at every position of the goal
@@ -105,6 +104,28 @@ module _ (W : List Word) (g : ℕ) where
           let e : g + suc k ≡ suc (g + k) = omega arith in
           let q = next (g + k) (step (g + k) (omega arith) (p .0) (p .1) (opens (getD W (g + k) Bad) 0) (closes (getD W (g + k) Bad) 0) refl refl) in
           (q .0, subst (λ (y : ℕ). Opened W g y (q .0)) (sym e) (q .1))
+
+  -- behind the goal's first word: one that closes nothing stands before the goal's end, and what is around it is in the goal
+  module _ (first : opens (getD W g Bad) 0 ≡ true) (whole : close W g < length W) (j : ℕ) (from : g < j) (to : j ≤ close W g) where
+    here-open : (os : List ℕ) × Opened W g j os
+    here-open =
+        let e : g + (j - g) ≡ j = omega arith in
+        subst (λ (x : ℕ). (os : List ℕ) × Opened W g x os) e (opened-at first (j - g) (omega arith) whole)
+
+    pub inside-more : closes (getD W j Bad) 0 ≡ false → j < close W g
+    inside-more k = go (decLt j (close W g))
+      where
+        go : Dec (j < close W g) → j < close W g
+        go (yes h) = h
+        go (no h) = absurd (opened-last j (here-open .0) (omega arith) (omega arith) from (here-open .1) k)
+
+    pub inside-around : (g ≤ around W j) × (around W j < j)
+    unfolding Chain
+    inside-around = go (here-open .0) (here-open .1 .chain)
+      where
+        go : (os : List ℕ) → Chain W g j os → (g ≤ around W j) × (around W j < j)
+        go [] c = absurd (omega (arith, c))
+        go (o ∷ os) c = (omega (arith, c .0, c .1), omega (arith, c .0, c .2))
 
   -- the stores around a position are those of the brackets, one after the other
   pub chain-next : (j o : ℕ) (os : List ℕ) → Chain W g j (o ∷ os) → ranges-from W g j ≡ and-its W o [] ++ ranges-from W g o

@@ -32,6 +32,15 @@ opening-closes (Place k) d e = refl
 opening-closes (Inner s) d e = refl
 opening-closes Bad d e = refl
 
+pub not-closing : (w : Word) (d : ℕ) → closes w 0 ≡ false → false ≡ closes w d
+not-closing End d e = absurd (false-true (sym e))
+not-closing (Free v) d e = refl
+not-closing (Level v) d e = refl
+not-closing (Num v) d e = refl
+not-closing (Place k) d e = refl
+not-closing (Inner s) d e = refl
+not-closing Bad d e = refl
+
 pub opening-deeper : (w : Word) (d : ℕ) → opens w 0 ≡ true → d + 1 ≡ deeper w d
 opening-deeper End d e = absurd (false-true e)
 opening-deeper (Free v) d e = absurd (false-true e)

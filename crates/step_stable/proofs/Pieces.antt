@@ -1,4 +1,5 @@
--- A goal is stable where there is no unrest at its own place, at its and-boxes and at the other places inside it.
+-- A goal is stable where there is no unrest at its own place, at its and-boxes, and at the other places inside it by their shape and by their
+-- solved guards.
 use mathlib.Core.Path.{_≡_, refl, ap, sym, _∙_, subst}
 use mathlib.Core.Bool.{Bool, true, false}
 use mathlib.Core.List.{List}
@@ -12,22 +13,21 @@ use Rattle.rule_effects.specs.Effects.{behind}
 use Rattle.rule_effects.specs.Conditions.{kind-at}
 use Rattle.rule_kinds.specs.Kinds.{takes-in}
 use Rattle.step_meant.specs.Asked.{Unrest, IsStable, CanAsk}
-use Rattle.step_unrest.specs.Disturbing.{MovedAt, Means}
+use Rattle.step_unrest.specs.Disturbing.{ByShape}
 use Rattle.step_unrest.proofs.Boxed.{and-takes, place-stirs, place-rests}
 use Rattle.step_walk.specs.Calm.{BoxesCalm}
+use Rattle.step_guards.specs.Guards.{GuardsRest}
 use Rattle.step_calm.proofs.Walkable as walkable
 use Rattle.step_calm.proofs.Walkable.{can-walk}
 use Rattle.step_calm.proofs.Resting.{boxes-rest, boxes-stir}
+use Rattle.step_calm.proofs.Guarding.{guards-rest, guards-stir}
 use Rattle.step_stable.specs.Calm.{Calm, OwnPlace, RestTo, PlacesRest}
 use Rattle.step_stable.proofs.Answers.{calm, loud}
 
 differ : false ≡ true → ⊥
 differ z = let y : _≡_ {A = ℕ} 0 1 = ap (λ (x : Bool). elim x [ true ↦ 1 | false ↦ 0 ]) z in omega (arith, y)
 
--- the words mean a state, and the goal ends in them
-pub means : {W D : List Word} {g : ℕ} → CanAsk W D g → Means W D
-means c = record { state = c .state; meant = c .meant }
-
+-- the goal ends in the words
 pub goal-order : {W D : List Word} {g : ℕ} → CanAsk W D g → g < behind W g
 goal-order {W} {D} {g} c = walkable.goal-order W D g c
 
@@ -42,23 +42,6 @@ module _ {W D : List Word} {g : ℕ} where
   pub own-asked : {b : Bool} → Unrest W D g g b → OwnPlace W D g b
   own-asked u = record { stirs = λ z. subst (λ (x : Bool). Unrest W D g g x) z u; rests = λ z o. subst (λ (x : Bool). Unrest W D g g x) z u }
 
-  -- the places inside it
-  pub rest-first : {j : ℕ} → j ≡ g + 1 → RestTo W D g j
-  rest-first e = record { still = λ i a b. absurd (omega (arith, e)) }
-
-  pub rest-next : {j : ℕ} {b : Bool} → RestTo W D g j → MovedAt W D j b → b ≡ false → g < j → j < behind W g → RestTo W D g (j + 1)
-  rest-next {j} c m z l u = record { still = λ i a b o. go i a b o (ℕ-discrete i j) }
-    where
-      go : (i : ℕ) → g < i → i < j + 1 → (takes-in W i ≡ 7 → ⊥) → Dec (i ≡ j) → Unrest W D g i false
-      go i a b o (yes e) = subst (λ (x : ℕ). Unrest W D g x false) (sym e) (place-rests m l u z (λ y. o (ap (takes-in W) e ∙ y)))
-      go i a b o (no e) = c .still i a (omega arith) o
-
-  pub rest-all : {j : ℕ} → RestTo W D g j → behind W g ≤ j → PlacesRest W D g true
-  rest-all c h = record { rests = λ z. record { still = λ i a b o. c .still i a (omega arith) o }; stirs = λ z. absurd (differ (sym z)) }
-
-  pub rest-not : {j : ℕ} {b : Bool} → MovedAt W D j b → b ≡ true → g < j → j < behind W g → PlacesRest W D g false
-  rest-not {j} m z l u = record { rests = λ y. absurd (differ y); stirs = λ y. (j, l, u, place-stirs m l u z) }
-
   -- unrest at its own place, at an and-box
   pub own-stirs : {b : Bool} → CanAsk W D g → OwnPlace W D g b → b ≡ true → IsStable W D g false
   own-stirs c h z = loud (h .stirs z) refl (omega arith) (goal-order c)
@@ -66,15 +49,39 @@ module _ {W D : List Word} {g : ℕ} where
   pub boxes-stir-it : {b : Bool} → BoxesCalm W g b → b ≡ false → IsStable W D g false
   boxes-stir-it h z = let f = boxes-stir h D z in loud (f .3) refl (f .1) (f .2)
 
-  -- nor at its own place nor at an and-box: the other places decide
-  pub places-decide : {a b c : Bool} → OwnPlace W D g a → a ≡ false → BoxesCalm W g b → b ≡ true → PlacesRest W D g c → IsStable W D g c
-  places-decide {a} {b} {c} h z k y p = go c refl
+  -- at another place
+  pub places-stir : {b : Bool} → PlacesRest W g b → b ≡ false → IsStable W D g false
+  places-stir p z = let f = p .stirs z in let l = f .1 in loud (place-stirs (f .3 .stirs refl D) l (f .2) refl) refl (omega (arith, l)) (f .2)
+
+  -- nowhere of these: the solved guards decide
+  pub guards-decide : {a b c d : Bool} → CanAsk W D g → OwnPlace W D g a → a ≡ false → PlacesRest W g b → b ≡ true → BoxesCalm W g c → c ≡ true → GuardsRest W g d → IsStable W D g d
+  guards-decide {a} {b} {c} {d} ask h z p x k y r = go d r
     where
-      at-place : RestTo W D g (behind W g) → (i : ℕ) → g ≤ i → i < behind W g → Dec (takes-in W i ≡ 7) → Dec (i ≡ g) → Unrest W D g i false
+      at-place : GuardsRest W g true → (i : ℕ) → g ≤ i → i < behind W g → Dec (takes-in W i ≡ 7) → Dec (i ≡ g) → Unrest W D g i false
       at-place r i l u (yes e) d = boxes-rest k D y i l u e
       at-place r i l u (no o) (yes e) = subst (λ (x : ℕ). Unrest W D g x false) (sym e) (h .rests z (λ v. o (ap (takes-in W) e ∙ v)))
-      at-place r i l u (no o) (no e) = r .still i (omega arith) u o
+      at-place r i l u (no o) (no e) = place-rests (p .rests x .still i (omega arith) u .rests refl (guards-rest (can-walk W D g ask) r i (omega arith) u) D) (omega arith) u refl o
 
-      go : (v : Bool) → c ≡ v → IsStable W D g v
-      go true e = calm {j = behind W g} (record { still = λ i l u. at-place (p .rests e) i l u (ℕ-discrete (takes-in W i) 7) (ℕ-discrete i g) }) (omega arith)
-      go false e = let f = p .stirs e in let l = f .1 in loud (f .3) refl (omega (arith, l)) (f .2)
+      go : (v : Bool) → GuardsRest W g v → IsStable W D g v
+      go true r = calm {j = behind W g} (record { still = λ i l u. at-place r i l u (ℕ-discrete (takes-in W i) 7) (ℕ-discrete i g) }) (omega arith)
+      go false r = let f = guards-stir r D refl in loud (f .3) refl (f .1) (f .2)
+
+-- ---------------------------------------------------------------------------------------------
+-- The places inside it, one after the other.
+
+module _ {W : List Word} {g : ℕ} where
+  pub rest-first : {j : ℕ} → j ≡ g + 1 → RestTo W g j
+  rest-first e = record { still = λ i a b. absurd (omega (arith, e)) }
+
+  pub rest-next : {j : ℕ} {b : Bool} → RestTo W g j → ByShape W j b → b ≡ false → RestTo W g (j + 1)
+  rest-next {j} c m z = record { still = λ i a b. go i a b (ℕ-discrete i j) }
+    where
+      go : (i : ℕ) → g < i → i < j + 1 → Dec (i ≡ j) → ByShape W i false
+      go i a b (yes e) = subst (λ (x : ℕ). ByShape W x false) (sym e) (subst (λ (x : Bool). ByShape W j x) z m)
+      go i a b (no e) = c .still i a (omega arith)
+
+  pub rest-all : {j : ℕ} → RestTo W g j → behind W g ≤ j → PlacesRest W g true
+  rest-all c h = record { rests = λ z. record { still = λ i a b. c .still i a (omega arith) }; stirs = λ z. absurd (differ (sym z)) }
+
+  pub rest-not : {j : ℕ} {b : Bool} → ByShape W j b → b ≡ true → g < j → j < behind W g → PlacesRest W g false
+  rest-not {j} m z l u = record { rests = λ y. absurd (differ y); stirs = λ y. (j, l, u, subst (λ (x : Bool). ByShape W j x) z m) }

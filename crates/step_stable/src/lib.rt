@@ -1,6 +1,9 @@
-// Whether a goal is stable: its own place, then its and-boxes, then the other places inside it are asked for unrest.
+// Whether a goal is stable: its own place, the places inside it by their shape, its and-boxes, then its solved guards are asked for unrest.
+ghost use Prim.Native.Nat.{_<_, _≤_};
+ghost use lib.ListN.{length};
 ghost use Rattle.mem_words.specs.Words.{words};
 ghost use Rattle.work_tables.specs.Tables.{Laid};
+ghost use Rattle.rule_effects.specs.Effects.{behind};
 ghost use Rattle.step_meant.specs.Asked.{CanAsk, IsStable};
 ghost use Rattle.step_stable.specs.Calm.{OwnPlace, PlacesRest};
 use mem_sorts::Kind;
@@ -16,15 +19,15 @@ fn goal_stirs(t: &[u8], d: &[u8], w: &mut [u8], g: usize) -> bool
     step_unrest::unrest_at(t, d, w, g, g)
 }
 
-// Whether there is none at the places inside the goal that are no and-boxes.
-fn places_rest(t: &[u8], d: &[u8], w: &mut [u8], g: usize) -> bool
-    requires { ⌜ Laid (now w) × CanAsk (words (now t)) (words (now d)) g ⌝ }
-    ensures { λ r. ⌜ PlacesRest (words (now (t .entry))) (words (now (d .entry))) g r × Laid (now (w .exit)) ⌝ }
+// Whether no rule applies by the shape alone at the places inside the goal.
+fn places_rest(t: &[u8], g: usize) -> bool
+    requires { ⌜ (g < behind (words (now t)) g) × (behind (words (now t)) g ≤ length (words (now t))) ⌝ }
+    ensures { λ r. ⌜ PlacesRest (words (now (t .entry))) g r ⌝ }
 {
     let e = rule_close::end_of(t, g);
     let mut j = g + 1;
     while j <= e {
-        if step_unrest::disturbed_at(t, d, w, j) {
+        if step_unrest::moved_at(t, j) {
             return false;
         }
         j += 1;
@@ -32,7 +35,7 @@ fn places_rest(t: &[u8], d: &[u8], w: &mut [u8], g: usize) -> bool
     true
 }
 
-// Whether the goal at `g` of the configuration `t` is stable; `d` has the program's words.
+// Whether the goal at `g` of the configuration `t` is stable; `d` has the program's words. What is cheap is asked first.
 pub fn stable(t: &[u8], d: &[u8], w: &mut [u8], g: usize) -> bool
     requires { ⌜ Laid (now w) × CanAsk (words (now t)) (words (now d)) g ⌝ }
     ensures { λ r. ⌜ IsStable (words (now (t .entry))) (words (now (d .entry))) g r × Laid (now (w .exit)) ⌝ }
@@ -40,8 +43,11 @@ pub fn stable(t: &[u8], d: &[u8], w: &mut [u8], g: usize) -> bool
     if goal_stirs(t, d, w, g) {
         return false; // the goal itself
     }
-    if step_walk::calm(t, w, g) {
-        return places_rest(t, d, w, g);
+    if places_rest(t, g) {
+        if step_walk::calm(t, w, g) {
+            return step_guards::guards_rest(t, w, g); // guards that must be quiet
+        }
+        return false; // an and-box
     }
-    false // an and-box
+    false // another place
 }

@@ -1,6 +1,6 @@
 pub mod Shaped
 pub mod Stores
-pub mod Calming
+pub mod Standing
 pub mod Entering
 pub mod Leaving
 pub mod Passing

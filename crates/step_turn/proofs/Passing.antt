@@ -12,32 +12,26 @@ use Rattle.mem_words.specs.declared.Word.the-variants.{Bad}
 use Rattle.mem_sorts.specs.declared.Kind.the-variants.{And}
 use Rattle.mem_parts.specs.Parts.{outside-wide}
 use Rattle.solve_tells.specs.Draws.{Drawn}
-use Rattle.solve_quiet.specs.Solver.{Marking}
-use Rattle.work_tables.specs.Tables.{moved-log, moved-locals}
+use Rattle.work_tables.specs.Tables.{moved-log}
 use Rattle.work_marks.specs.Marks.{usedAt, allTold}
 use Rattle.work_marks.proofs.Verdicts.{lower-satisfiable}
 use Rattle.work_marks.proofs.Rooms.{drawn-fewer}
 use Rattle.work_enter.specs.Enters.{At}
 use Rattle.rule_words.specs.Scans.{opens, closes, close}
 use Rattle.rule_effects.specs.Conditions.{kind-at}
-use Rattle.rule_ranges.specs.Ranges.{locals-at}
 use Rattle.step_open.specs.Opened.{Opened}
-use Rattle.step_open.proofs.Turns.{false-true, opening-closes, and-opens}
+use Rattle.step_open.proofs.Turns.{false-true, opening-closes}
 use Rattle.step_open.proofs.Chains.{opened-in, opened-out, opened-keep, opened-none}
 use Rattle.step_frames.specs.Frames.{framesOf, same-frames}
 use Rattle.step_turn.specs.declared.Next.{Next}
 use Rattle.step_turn.specs.Boxes.{Bracket, plain, box, places, marks, inner, boxes, Told, Framed}
-use Rattle.step_turn.specs.Stood.{CanWalk, CalmTo, Stood, Goes}
+use Rattle.step_turn.specs.Stood.{CanWalk, Stood, Goes}
 use Rattle.step_turn.specs.Leaving.{CanLeave, Left}
 use Rattle.step_turn.proofs.Stores.{boxes-few}
-use Rattle.step_turn.proofs.Calming.{calm-next}
 
 module _ (W : List Word) (g from : ℕ) (X : List ℕ) (j d k used n a : ℕ) (c : CanWalk W g) (s : Stood W g from X j d k used n a) (low : j < close W g) where
   short : j < length W
   short = omega (arith, c .whole)
-
-  no-box : kind-at W j And ≡ false → CalmTo W g (j + 1)
-  no-box e = calm-next W g j (s .calm) (λ h. absurd (false-true (sym e ∙ h)))
 
   -- it opens a bracket
   pub opens-on : opens (getD W j Bad) 0 ≡ true → kind-at W j And ≡ false → Stood W g from X (j + 1) (d + 1) k used n a
@@ -54,8 +48,6 @@ module _ (W : List Word) (g from : ℕ) (X : List ℕ) (j d k used n a : ℕ) (c
     at = s .at;
     solved = s .solved;
     logged = s .logged;
-    locals = s .locals;
-    calm = no-box f;
   }
 
   -- it neither opens nor closes one
@@ -72,15 +64,10 @@ module _ (W : List Word) (g from : ℕ) (X : List ℕ) (j d k used n a : ℕ) (c
     at = s .at;
     solved = s .solved;
     logged = s .logged;
-    locals = s .locals;
-    calm = calm-next W g j (s .calm) (λ h. absurd (false-true (sym e ∙ and-opens W j h)));
   }
 
   -- it closes one
   module _ (e : closes (getD W j Bad) 0 ≡ true) where
-    calm-end : CalmTo W g (j + 1)
-    calm-end = calm-next W g j (s .calm) (λ h. absurd (false-true (opening-closes (getD W j Bad) 0 (and-opens W j h) ∙ e)))
-
     some-open : Opened W g j [] → ⊥
     some-open p = false-true (opening-closes (getD W g Bad) 0 (c .first) ∙ ap (λ (x : ℕ). closes (getD W x Bad) 0) (sym (opened-none W g j p)) ∙ e)
 
@@ -103,8 +90,6 @@ module _ (W : List Word) (g from : ℕ) (X : List ℕ) (j d k used n a : ℕ) (c
           at = q;
           solved = v;
           logged = s .logged;
-          locals = s .locals;
-          calm = calm-end;
         }
         go (box o ns ∷ bs) p t f h b q v = absurd (z (sym h))
 
@@ -151,6 +136,4 @@ module _ (W : List Word) (g from : ℕ) (X : List ℕ) (j d k used n a : ℕ) (c
               at = record { walk = y .1; isUsed = refl; isTrail = refl; isApps = refl };
               solved = λ lab. lower-satisfiable lab ns m (v lab);
               logged = λ us w. subst (λ (x : List Word). Drawn x (0 ∷ us)) (sym (moved-log (usedAt m) (l .rest))) (drawn-fewer (usedAt m) used X (0 ∷ us) (q .walk .laid) (omega (arith, q .isUsed, t .1 .words)) (omega (arith, q .isUsed, q .walk .room)) (s .logged us w));
-              locals = subst (λ (x : List ℕ). Marking x (locals-at W g)) (sym (moved-locals (l .rest))) (s .locals);
-              calm = calm-end;
             })

@@ -1,14 +1,13 @@
 -- What was told for the brackets that are open, by their ranges: the constraints, but for the order; the room that was taken.
 -- Assumes nothing.
 use mathlib.Core.Path.{_≡_, refl, ap, sym, _∙_, subst}
-use mathlib.Core.Logic.{_↔_}
 use mathlib.Core.Bool.{false}
 use mathlib.Core.List.{List, [], _∷_, _++_, append-assoc}
 use Prim.Native.Nat.{ℕ, _+_, _*_, _≤_, _<_}
 use native.Mathlib.Omega.{arith}
 use lib.ListN.{length, getD}
 use Rattle.constraint.specs.Tree.{Label}
-use Rattle.constraint.specs.Constraint.{Asg, Store, Sats}
+use Rattle.constraint.specs.Constraint.{Store}
 use Rattle.constraint.proofs.Entail.{sats-append}
 use Rattle.mem_words.specs.declared.Word.{Word}
 use Rattle.mem_sorts.specs.declared.Kind.the-variants.{And}
@@ -16,7 +15,7 @@ use Rattle.work_marks.specs.Marks.{Mark, appsAt, usedAt, allTold}
 use Rattle.work_marks.proofs.Standing.{all-since}
 use Rattle.rule_effects.specs.Conditions.{kind-at}
 use Rattle.rule_ranges.specs.Ranges.{Range, and-its, ranges-from, told-all, log-words, apps-all}
-use Rattle.rule_ranges.proofs.Alike.{Alike, alike-same, alike-turned}
+use Rattle.rule_ranges.proofs.Alike.{Alike, fresh-append, alike-same, alike-turned}
 use Rattle.rule_tells.proofs.Scanned.{its-and, its-other, none-left}
 use Rattle.rule_tells.proofs.Adding.{told-more, words-more, apps-more}
 use Rattle.step_open.specs.Opened.{Chain}
@@ -41,8 +40,15 @@ inner-few [] = omega arith
 inner-few (plain o ∷ bs) = omega (arith, inner-few bs)
 inner-few (box o ns ∷ bs) = omega arith
 
-pub depth-few : {W : List Word} {from : ℕ} {X : List ℕ} {j d k used n a : ℕ} → CanTurn W from X j d k used n a → d ≤ length W
-depth-few {W} {from} {X} {j} p = let s = p .stood in omega (arith, p .low, p .can .whole, s .depth, inner-few (s .brackets), chain-few W (p .goal) j (places (s .brackets)) (s .opened .chain))
+pub depth-few : {W : List Word} {X : List ℕ} {j d k used n a : ℕ} → CanTurn W X j d k used n a → d ≤ length W
+depth-few {W} {X} {j} p = let s = p .stood in omega (arith, p .low, p .can .whole, s .depth, inner-few (s .brackets), chain-few W (p .goal) j (places (s .brackets)) (s .opened .chain))
+
+-- a store behind another comes before one that is like the other
+alike-moved : (σ : Store) {τ e : Store} → Alike τ e → Alike (τ ++ σ) (σ ++ e)
+alike-moved σ {τ} {e} h = record {
+  sats = λ ρ. (λ s. let p = sats-append ρ τ σ .0 s in sats-append ρ σ e .1 (p .1, h .sats ρ .0 (p .0)), λ s. let p = sats-append ρ σ e .0 s in sats-append ρ τ σ .1 (h .sats ρ .1 (p .1), p .0));
+  fresh = λ vs. (λ s. let p = fresh-append vs τ σ .0 s in fresh-append vs σ e .1 (p .1, h .fresh vs .0 (p .0)), λ s. let p = fresh-append vs σ e .0 s in fresh-append vs τ σ .1 (h .fresh vs .1 (p .1), p .0));
+}
 
 -- an entry of the stack by numbers that are the same
 pub frame-as : {F : List ℕ} {k d u n a : ℕ} (k′ d′ u′ n′ a′ : ℕ) → k ≡ k′ → d ≡ d′ → u ≡ u′ → n ≡ n′ → a ≡ a′ → Frame F k d u n a → Frame F k′ d′ u′ n′ a′
@@ -106,7 +112,7 @@ module _ (W : List Word) (g : ℕ) (env : List Mark) where
   boxes-few (plain o ∷ bs) t = boxes-few bs (t .1)
   boxes-few (box o ns ∷ bs) t = omega (arith, boxes-few bs (t .2), t .1 .words, ap log-words (its-and W o (t .0)))
 
-  -- all that was told has the solutions of all stores around the position
+  -- all that was told is like all stores around the position
   module _ (from : ℕ) (v : Environment W g from env) (lab : ℕ → Label) (j : ℕ) (bs : List Bracket) (c : Chain W g j (places bs)) (t : Told W env bs) where
     by-ranges : told-all lab W (ranges-from W 0 j) ≡ told-all lab W (ranges-from W g j) ++ told-all lab W (ranges-from W 0 g)
     by-ranges = ap (told-all lab W) (chain-all W g j (places bs) c) ∙ told-more lab W (ranges-from W g j) (ranges-from W 0 g)
@@ -114,10 +120,8 @@ module _ (W : List Word) (g : ℕ) (env : List Mark) where
     by-marks : allTold lab (marks env bs) ≡ told-all lab W (ranges-from W 0 g) ++ allTold lab (since bs)
     by-marks = ap (allTold lab) (marks-since env bs) ∙ all-since lab (since bs) env ∙ ap (λ (σ : Store). σ ++ allTold lab (since bs)) (v .told lab)
 
-    pub around-sats : (ρ : Asg) → Sats ρ (told-all lab W (ranges-from W 0 j)) ↔ Sats ρ (allTold lab (marks env bs))
-    around-sats ρ = (
-      λ s. let p = sats-append ρ (told-all lab W (ranges-from W g j)) (told-all lab W (ranges-from W 0 g)) .0 (subst (Sats ρ) by-ranges s) in
-          subst (Sats ρ) (sym by-marks) (sats-append ρ (told-all lab W (ranges-from W 0 g)) (allTold lab (since bs)) .1 (p .1, stores-alike lab j bs c t .sats ρ .0 (p .0))),
-      λ s. let p = sats-append ρ (told-all lab W (ranges-from W 0 g)) (allTold lab (since bs)) .0 (subst (Sats ρ) by-marks s) in
-          subst (Sats ρ) (sym by-ranges) (sats-append ρ (told-all lab W (ranges-from W g j)) (told-all lab W (ranges-from W 0 g)) .1 (stores-alike lab j bs c t .sats ρ .1 (p .1), p .0)),
-    )
+    pub around-alike : Alike (told-all lab W (ranges-from W 0 j)) (allTold lab (marks env bs))
+    around-alike =
+        subst (λ (σ : Store). Alike σ (allTold lab (marks env bs))) (sym by-ranges)
+        (subst (λ (σ : Store). Alike (told-all lab W (ranges-from W g j) ++ told-all lab W (ranges-from W 0 g)) σ) (sym by-marks)
+        (alike-moved (told-all lab W (ranges-from W 0 g)) (stores-alike lab j bs c t)))

@@ -1,4 +1,4 @@
-// One word of a walk over the and-boxes of a goal: a box is entered, told and asked, or left.
+// One word of a walk over the and-boxes of a goal: a box is entered and its store told, or it is left.
 ghost use mathlib.Core.Path.{_≡_};
 ghost use mathlib.Core.Bool.{true};
 ghost use Rattle.mem_words.specs.Words.{words};
@@ -10,7 +10,6 @@ ghost use Rattle.step_turn.specs.Leaving.{CanLeave, Left};
 use mem_sorts::Kind;
 use mem_words::Word;
 use rule_tells::Around;
-use solve_quiet::Calm;
 
 // What a word is to the walk.
 enum Shape {
@@ -21,10 +20,10 @@ enum Shape {
 }
 
 // How the walk goes on behind a word: how many brackets are open inside the innermost and-box, how many and-boxes are open, and the
-// mark, which is the used words of the log, the trail and the applications; or an and-box is not calm.
+// mark, which is the used words of the log, the trail and the applications; or an and-box has no solution with its environment.
 pub enum Next {
     On(usize, usize, usize, usize, usize),
-    Loud,
+    Fails,
 }
 
 fn place_shape(k: Kind) -> Shape
@@ -55,12 +54,10 @@ fn word_shape(x: Word) -> Shape
     }
 }
 
-// Enters the and-box at `j`: its store is told on top of the mark, then what was told since the goal's mark, whose trail is `from`, is
-// asked to be quiet.
+// Enters the and-box at `j`: its store is told on top of the mark, and an entry for the mark put onto the stack.
 fn enter(
     t: &[u8],
     w: &mut [u8],
-    from: usize,
     j: usize,
     d: usize,
     k: usize,
@@ -68,23 +65,16 @@ fn enter(
     n: usize,
     a: usize,
 ) -> Next
-    requires { ⌜ CanTurn (words (now t)) from (now w) j d k used n a × (kind-at (words (now t)) j kinds.And ≡ true) ⌝ }
-    ensures { λ r. ⌜ Turned (words (now (t .entry))) from (now (w .entry)) j d k used n a (now (w .exit)) r ⌝ }
+    requires { ⌜ CanTurn (words (now t)) (now w) j d k used n a × (kind-at (words (now t)) j kinds.And ≡ true) ⌝ }
+    ensures { λ r. ⌜ Turned (words (now (t .entry))) (now (w .entry)) j d k used n a (now (w .exit)) r ⌝ }
 {
     let r = rule_tells::tell_from(t, w, j, j + 1, used, n, a);
     match r {
         Around::All(u, m, b) => {
-            let c = work_quiet::quiet(w, u, m, b, from);
-            match c {
-                Calm::Silent => {
-                    step_frames::push(w, k, d, used, n, a);
-                    Next::On(0, k + 1, u, m, b)
-                }
-                Calm::Loudly => Next::Loud,
-                Calm::NoSpace => Next::Loud,
-            }
+            step_frames::push(w, k, d, used, n, a);
+            Next::On(0, k + 1, u, m, b)
         }
-        Around::Failed => Next::Loud,
+        Around::Failed => Next::Fails,
     }
 }
 
@@ -107,7 +97,6 @@ fn leave(w: &mut [u8], k: usize, n: usize) -> Next
 pub fn turn(
     t: &[u8],
     w: &mut [u8],
-    from: usize,
     j: usize,
     d: usize,
     k: usize,
@@ -115,13 +104,13 @@ pub fn turn(
     n: usize,
     a: usize,
 ) -> Next
-    requires { ⌜ CanTurn (words (now t)) from (now w) j d k used n a ⌝ }
-    ensures { λ r. ⌜ Turned (words (now (t .entry))) from (now (w .entry)) j d k used n a (now (w .exit)) r ⌝ }
+    requires { ⌜ CanTurn (words (now t)) (now w) j d k used n a ⌝ }
+    ensures { λ r. ⌜ Turned (words (now (t .entry))) (now (w .entry)) j d k used n a (now (w .exit)) r ⌝ }
 {
     let x = mem_get::get(t, j);
     let s = word_shape(x);
     match s {
-        Shape::Box => enter(t, w, from, j, d, k, used, n, a),
+        Shape::Box => enter(t, w, j, d, k, used, n, a),
         Shape::Opens => Next::On(d + 1, k, used, n, a),
         Shape::Closes => {
             if d == 0 {

@@ -1,7 +1,8 @@
 -- Inside a goal every rule rewrites the goal or something inside it: so whether one disturbs it goes by the kind of the place alone,
 -- and by whether it applies.
 use mathlib.Core.Path.{_≡_, refl, ap, ap₂, sym, _∙_, subst}
-use mathlib.Core.Bool.{Bool, true, false, _||_}
+use mathlib.Core.Bool.{Bool, true, false, cond, _||_}
+use mathlib.Core.Logic.{_⊎_, inl, inr}
 use mathlib.Core.List.{List, [], _∷_, _++_}
 use mathlib.Core.Option.{some}
 use Prim.Native.Nat.{ℕ, zero, suc, _+_, _<_, _≤_}
@@ -27,20 +28,21 @@ use Rattle.rule_words.specs.Scans.{close, around}
 use Rattle.rule_words.proofs.Balance.{a-place}
 use Rattle.rule_effects.specs.Effects.{behind}
 use Rattle.rule_effects.specs.Conditions as shapes
-use Rattle.rule_effects.specs.Conditions.{kind-in, solved-at, one-at}
+use Rattle.rule_effects.specs.Conditions.{ends-at, solved-at, failure-at, parts-at, right-at, left-at, one-at}
 use Rattle.rule_effects.proofs.Frames.{stands-seg}
 use Rattle.rule_ranges.proofs.Inside.{around-before, around-inside}
+use Rattle.rule_ranges.specs.Asked.{QuietIn}
 use Rattle.rule_kinds.specs.Kinds.{takes-in}
 use Rattle.rule_holds.specs.Holding.{within-at, holds-in, inside-it}
 use Rattle.rule_holds.proofs.Inside.{rewrites-words}
 use Rattle.rule_applies.specs.declared.Asks.{Asks}
-use Rattle.rule_applies.specs.declared.Asks.the-variants.{Never, Always}
-use Rattle.rule_applies.specs.Asking.{only-if, asks-6, asks-7, asks-8, asks-in}
+use Rattle.rule_applies.specs.declared.Asks.the-variants.{Never, Always, Quiet}
+use Rattle.rule_applies.specs.Asking.{only-if, asks-6, asks-7, asks-8, asks-10, asks-11, asks-13, asks-in}
 use Rattle.step_meant.specs.Meant.{Meant, StandsAt}
 use Rattle.step_meant.specs.Asked as asked
-use Rattle.step_meant.specs.Asked.{Applies, CanApply}
-use Rattle.step_applies.proofs.Laws.{never-applies, always-applies}
-use Rattle.step_unrest.specs.Disturbing.{Disturbed, MovedAt, Means}
+use Rattle.step_meant.specs.Asked.{Applies}
+use Rattle.step_applies.proofs.Laws.{never-applies, always-applies, quiet-applies}
+use Rattle.step_unrest.specs.Disturbing.{Disturbed, MovedAt, NoneQuiet, ByShape}
 use Rattle.step_unrest.proofs.Placing.{place-there, kind-is, no-place-there}
 use Rattle.step_unrest.proofs.Taken.{says, applied, all-rules, says-or-box, says-choice-box, says-guarded-goal, says-constraint, says-call, says-composition, says-hiding, says-choice, says-inner}
 
@@ -73,25 +75,45 @@ module _ (W D : List Word) (g j : ℕ) (s : State) {k : akl.Kind} (χ : Ctx k) (
       rewrites-words (number-in (table s)) holder p q ∙ sym (within-it W g (around W j) (around-here a b) (omega (arith, l, b)))
 
 -- ---------------------------------------------------------------------------------------------
--- Shapes that keep a rule from asking anything.
+-- What a rule asks.
 
-first-fails : (a : Bool) (x : Asks) → a ≡ false → only-if a x ≡ Never
+one-fails : (b c : Bool) (x : Asks) → b ≡ c → b ≡ false → Never ≡ only-if c x
 unfolding only-if
-first-fails a x e = ap (λ (b : Bool). only-if b x) e
+one-fails b c x e z = ap (λ (a : Bool). only-if a x) (sym z ∙ e)
 
-second-fails : (a b : Bool) (x : Asks) → b ≡ false → only-if a (only-if b x) ≡ Never
+one-holds : (b c : Bool) → b ≡ c → b ≡ true → Always ≡ only-if c Always
 unfolding only-if
-second-fails true b x e = ap (λ (c : Bool). only-if c x) e
-second-fails false b x e = refl
+one-holds b c e z = ap (λ (a : Bool). only-if a Always) (sym z ∙ e)
 
--- one operator is not another
-wait-cond : (W : List Word) (o : ℕ) → shapes.kind-at W o Wait ≡ true → shapes.kind-at W o Cond ≡ false
-unfolding shapes.kind-at
-wait-cond W o h = let z = eqb→eq (kind-in (getD W o Bad)) 4 (subst T (sym h) tt) in ap (λ (x : ℕ). eqb x 5) z
+-- nothing, or whether the guard at q is quiet
+three-tests : (a b c : Bool) (q : ℕ) → (Never ≡ only-if a (only-if b (only-if c (Quiet q)))) ⊎ (Quiet q ≡ only-if a (only-if b (only-if c (Quiet q))))
+unfolding only-if
+three-tests true true true q = inr refl
+three-tests true true false q = inl refl
+three-tests true false c q = inl refl
+three-tests false b c q = inl refl
 
-wait-commit : (W : List Word) (o : ℕ) → shapes.kind-at W o Wait ≡ true → shapes.kind-at W o Commit ≡ false
-unfolding shapes.kind-at
-wait-commit W o h = let z = eqb→eq (kind-in (getD W o Bad)) 4 (subst T (sym h) tt) in ap (λ (x : ℕ). eqb x 6) z
+not-waiting : (a b c : Bool) (q : ℕ) → c ≡ false → (Never ≡ only-if a (only-if b (cond c Always (Quiet q)))) ⊎ (Quiet q ≡ only-if a (only-if b (cond c Always (Quiet q))))
+unfolding only-if
+not-waiting true true true q e = absurd (let y : _≡_ {A = ℕ} 1 0 = ap (λ (x : Bool). elim x [ true ↦ 1 | false ↦ 0 ]) e in omega (arith, y))
+not-waiting true true false q e = inr refl
+not-waiting true false c q e = inl refl
+not-waiting false b c q e = inl refl
+
+-- with `?` the solver is not asked
+waiting : (a b c : Bool) (q : ℕ) → b ≡ true → c ≡ true → cond a Always Never ≡ only-if a (only-if b (cond c Always (Quiet q)))
+unfolding only-if
+waiting true b c q e z = ap (λ (x : Bool). only-if x (cond true Always (Quiet q))) (sym e) ∙ ap (λ (x : Bool). only-if b (cond x Always (Quiet q))) (sym z)
+waiting false b c q e z = refl
+
+unsolved : (a b : Bool) (x : Asks) → b ≡ false → Never ≡ only-if a (only-if b x)
+unfolding only-if
+unsolved true b x e = ap (λ (c : Bool). only-if c x) (sym e)
+unsolved false b x e = refl
+
+or-true : (b : Bool) → b || true ≡ true
+or-true true = refl
+or-true false = refl
 
 -- ---------------------------------------------------------------------------------------------
 -- By the kind K of the place.
@@ -100,11 +122,6 @@ module _ (W D : List Word) (j K : ℕ) (e : K ≡ takes-in W j) where
   -- the place at j is of the kind that rule r takes
   taken : (r : ℕ) (w : Row) → rule-row r ≡ some w → K ≡ takes-number (w .takes) → (s : State) (pl : places.Place) → StandsAt s W pl j → asked.Takes s W r pl j
   taken r w f h s pl q = record { stands = q; row = w; is-row = f; fits = subst T (sym (eq-eqb (takes-number (kind-at pl)) (takes-number (w .takes)) (sym (kind-is W j s pl q) ∙ sym e ∙ h))) tt }
-
-  can-take : (r : ℕ) (w : Row) → rule-row r ≡ some w → K ≡ takes-number (w .takes) → (K ≡ 10 → ⊥) → Means W D → CanApply W D r j
-  can-take r w f h o m =
-      let t = place-there W D j (m .state) (m .meant) (λ z. o (e ∙ z)) in
-      record { state = m .state; place = t .0; meant = m .meant; takes = taken r w f h (m .state) (t .0) (t .1) }
 
   pub effect-is : (r : ℕ) (w : Row) (b : Bool) → rule-row r ≡ some w → K ≡ takes-number (w .takes) → Applies W D r j b → (s : State) (pl : places.Place) → Meant W D s → StandsAt s W pl j → applied s pl r ≡ b
   effect-is r w b f h x s pl m q = sym (x .right s pl m (taken r w f h s pl q))
@@ -144,14 +161,6 @@ module _ (W D : List Word) (j K : ℕ) (e : K ≡ takes-in W j) where
   -- ---------------------------------------------------------------------------------------------
   -- A choice-box: rules 10 and 6.
 
-  pub can-10 : K ≡ 5 → Means W D → CanApply W D 10 j
-  unfolding rule-row nth akl-table.table
-  can-10 h = can-take 10 (row akl-table.choice-box-place determinate holder) refl h (λ z. omega (arith, z, h))
-
-  pub can-6 : K ≡ 5 → Means W D → CanApply W D 6 j
-  unfolding rule-row nth akl-table.table
-  can-6 h = can-take 6 (row akl-table.choice-box-place determinate holder) refl h (λ z. omega (arith, z, h))
-
   choice-box-says : (b : Bool) → K ≡ 5 → ((s : State) (pl : places.Place) → Meant W D s → StandsAt s W pl j → applied s pl 10 || applied s pl 6 ≡ b) → MovedAt W D j b
   choice-box-says b h f = moved-at b (λ z. (λ u. omega (arith, u, h), λ u. omega (arith, u, h))) (λ s pl m q.
       ap (λ (k : ℕ). says k true true (applied s pl)) h ∙ says-choice-box (applied s pl) ∙ f s pl m q)
@@ -167,29 +176,13 @@ module _ (W D : List Word) (j K : ℕ) (e : K ≡ takes-in W j) where
   moved-6 a b h x z y = choice-box-says b h (λ s pl m q.
       ap (λ (u : Bool). u || applied s pl 6) (effect-is 10 (row akl-table.choice-box-place determinate holder) a refl h x s pl m q ∙ z) ∙ effect-is 6 (row akl-table.choice-box-place determinate holder) b refl h y s pl m q)
 
-  -- the first guard is not solved, so that rule 6 does not apply
-  pub rests-unsolved : (a b : Bool) → K ≡ 5 → Applies W D 10 j a → a ≡ false → b ≡ solved-at W (j + 2) → b ≡ false → MovedAt W D j false
-  unfolding asks-in asks-6
-  rests-unsolved a b h x z f u = moved-6 a false h x z (never-applies W D 6 j (sym (second-fails (one-at W j) (solved-at W (j + 2)) _ (sym f ∙ u))))
+  -- it does, whatever rule 10 says
+  pub applied-6 : K ≡ 5 → Applies W D 6 j true → MovedAt W D j true
+  unfolding rule-row nth akl-table.table
+  applied-6 h y = choice-box-says true h (λ s pl m q. ap (λ (u : Bool). applied s pl 10 || u) (effect-is 6 (row akl-table.choice-box-place determinate holder) true refl h y s pl m q) ∙ or-true (applied s pl 10))
 
   -- ---------------------------------------------------------------------------------------------
   -- A guarded goal: rules 11, 13, 7 and 8.
-
-  pub can-11 : K ≡ 6 → Means W D → CanApply W D 11 j
-  unfolding rule-row nth akl-table.table
-  can-11 h = can-take 11 (row akl-table.guarded-goal determinate holder) refl h (λ z. omega (arith, z, h))
-
-  pub can-13 : K ≡ 6 → Means W D → CanApply W D 13 j
-  unfolding rule-row nth akl-table.table
-  can-13 h = can-take 13 (row akl-table.guarded-goal determinate holder) refl h (λ z. omega (arith, z, h))
-
-  pub can-7 : K ≡ 6 → Means W D → CanApply W D 7 j
-  unfolding rule-row nth akl-table.table
-  can-7 h = can-take 7 (row akl-table.guarded-goal determinate holder) refl h (λ z. omega (arith, z, h))
-
-  pub can-8 : K ≡ 6 → Means W D → CanApply W D 8 j
-  unfolding rule-row nth akl-table.table
-  can-8 h = can-take 8 (row akl-table.guarded-goal determinate holder) refl h (λ z. omega (arith, z, h))
 
   guarded-goal-says : (b : Bool) → K ≡ 6 → ((s : State) (pl : places.Place) → Meant W D s → StandsAt s W pl j → applied s pl 11 || (applied s pl 13 || (applied s pl 7 || applied s pl 8)) ≡ b) → MovedAt W D j b
   guarded-goal-says b h f = moved-at b (λ z. (λ u. omega (arith, u, h), λ u. omega (arith, u, h))) (λ s pl m q.
@@ -201,49 +194,34 @@ module _ (W D : List Word) (j K : ℕ) (e : K ≡ takes-in W j) where
   moved-11 a h x z = guarded-goal-says true h (λ s pl m q.
       ap (λ (u : Bool). u || (applied s pl 13 || (applied s pl 7 || applied s pl 8))) (effect-is 11 (row akl-table.guarded-goal determinate holder) a refl h x s pl m q ∙ z))
 
-  module _ (a : Bool) (h : K ≡ 6) (x : Applies W D 11 j a) (z : a ≡ false) where
-    past-11 : (b : Bool) → ((s : State) (pl : places.Place) → Meant W D s → StandsAt s W pl j → applied s pl 13 || (applied s pl 7 || applied s pl 8) ≡ b) → MovedAt W D j b
-    unfolding rule-row nth akl-table.table
-    past-11 b f = guarded-goal-says b h (λ s pl m q.
-        ap (λ (u : Bool). u || (applied s pl 13 || (applied s pl 7 || applied s pl 8))) (effect-is 11 (row akl-table.guarded-goal determinate holder) a refl h x s pl m q ∙ z) ∙ f s pl m q)
+  -- rule 13 does
+  pub moved-13 : K ≡ 6 → Applies W D 13 j true → MovedAt W D j true
+  unfolding rule-row nth akl-table.table
+  moved-13 h y = guarded-goal-says true h (λ s pl m q. ap (λ (u : Bool). applied s pl 11 || (u || (applied s pl 7 || applied s pl 8))) (effect-is 13 (row akl-table.guarded-goal determinate holder) true refl h y s pl m q) ∙ or-true (applied s pl 11))
 
-    -- rule 13 does
-    pub moved-13 : (b : Bool) → Applies W D 13 j b → b ≡ true → MovedAt W D j true
-    unfolding rule-row nth akl-table.table
-    moved-13 b y e2 = past-11 true (λ s pl m q. ap (λ (u : Bool). u || (applied s pl 7 || applied s pl 8)) (effect-is 13 (row akl-table.guarded-goal determinate holder) b refl h y s pl m q ∙ e2))
+  -- rules 7 and 8 do, whatever the others say
+  pub applied-7 : K ≡ 6 → Applies W D 7 j true → MovedAt W D j true
+  unfolding rule-row nth akl-table.table
+  applied-7 h y = guarded-goal-says true h (λ s pl m q. ap (λ (u : Bool). applied s pl 11 || (applied s pl 13 || (u || applied s pl 8))) (effect-is 7 (row akl-table.guarded-goal determinate holder) true refl h y s pl m q) ∙ ap (λ (u : Bool). applied s pl 11 || u) (or-true (applied s pl 13)) ∙ or-true (applied s pl 11))
 
-    module _ (b : Bool) (y : Applies W D 13 j b) (e2 : b ≡ false) where
-      past-13 : (c : Bool) → ((s : State) (pl : places.Place) → Meant W D s → StandsAt s W pl j → applied s pl 7 || applied s pl 8 ≡ c) → MovedAt W D j c
-      unfolding rule-row nth akl-table.table
-      past-13 c f = past-11 c (λ s pl m q. ap (λ (u : Bool). u || (applied s pl 7 || applied s pl 8)) (effect-is 13 (row akl-table.guarded-goal determinate holder) b refl h y s pl m q ∙ e2) ∙ f s pl m q)
+  pub applied-8 : K ≡ 6 → Applies W D 8 j true → MovedAt W D j true
+  unfolding rule-row nth akl-table.table
+  applied-8 h y = guarded-goal-says true h (λ s pl m q.
+      ap (λ (u : Bool). applied s pl 11 || (applied s pl 13 || (applied s pl 7 || u))) (effect-is 8 (row akl-table.guarded-goal determinate holder) true refl h y s pl m q) ∙ ap (λ (u : Bool). applied s pl 11 || (applied s pl 13 || u)) (or-true (applied s pl 7)) ∙ ap (λ (u : Bool). applied s pl 11 || u) (or-true (applied s pl 13)) ∙ or-true (applied s pl 11))
 
-      -- rule 7 does
-      pub moved-7 : (c : Bool) → Applies W D 7 j c → c ≡ true → MovedAt W D j true
-      unfolding rule-row nth akl-table.table
-      moved-7 c u e3 = past-13 true (λ s pl m q. ap (λ (v : Bool). v || applied s pl 8) (effect-is 7 (row akl-table.guarded-goal determinate holder) c refl h u s pl m q ∙ e3))
+  -- none of the four does
+  rests-four : K ≡ 6 → Applies W D 11 j false → Applies W D 13 j false → Applies W D 7 j false → Applies W D 8 j false → MovedAt W D j false
+  unfolding rule-row nth akl-table.table
+  rests-four h x y u v = guarded-goal-says false h (λ s pl m q.
+      ap (λ (o : Bool). o || (applied s pl 13 || (applied s pl 7 || applied s pl 8))) (effect-is 11 (row akl-table.guarded-goal determinate holder) false refl h x s pl m q)
+      ∙ ap (λ (o : Bool). o || (applied s pl 7 || applied s pl 8)) (effect-is 13 (row akl-table.guarded-goal determinate holder) false refl h y s pl m q)
+      ∙ ap (λ (o : Bool). o || applied s pl 8) (effect-is 7 (row akl-table.guarded-goal determinate holder) false refl h u s pl m q)
+      ∙ effect-is 8 (row akl-table.guarded-goal determinate holder) false refl h v s pl m q)
 
-      -- none of them does: rule 8 decides
-      pub moved-8 : (c d : Bool) → Applies W D 7 j c → c ≡ false → Applies W D 8 j d → MovedAt W D j d
-      unfolding rule-row nth akl-table.table
-      moved-8 c d u e3 v = past-13 d (λ s pl m q.
-          ap (λ (o : Bool). o || applied s pl 8) (effect-is 7 (row akl-table.guarded-goal determinate holder) c refl h u s pl m q ∙ e3) ∙ effect-is 8 (row akl-table.guarded-goal determinate holder) d refl h v s pl m q)
-
-      -- the guard is not solved, so that neither 7 nor 8 applies
-      pub rests-unsolved-guard : (c : Bool) → c ≡ solved-at W (j + 1) → c ≡ false → MovedAt W D j false
-      unfolding asks-in asks-7 asks-8
-      rests-unsolved-guard c f u =
-          moved-8 false false
-          (never-applies W D 7 j (sym (second-fails (shapes.kind-at W (around W j) Cond) (solved-at W (j + 1)) _ (sym f ∙ u)))) refl
-          (never-applies W D 8 j (sym (second-fails (shapes.kind-at W (around W j) Commit) (solved-at W (j + 1)) _ (sym f ∙ u))))
-
-      -- nor where the operator is `?`
-      pub rests-in-wait : (o : ℕ) (c : Bool) → o ≡ around W j → c ≡ shapes.kind-at W o Wait → c ≡ true → MovedAt W D j false
-      unfolding asks-in asks-7 asks-8
-      rests-in-wait o c f u v =
-          let k : shapes.kind-at W (around W j) Wait ≡ true = ap (λ (i : ℕ). shapes.kind-at W i Wait) (sym f) ∙ sym u ∙ v in
-          moved-8 false false
-          (never-applies W D 7 j (sym (first-fails (shapes.kind-at W (around W j) Cond) _ (wait-cond W (around W j) k)))) refl
-          (never-applies W D 8 j (sym (first-fails (shapes.kind-at W (around W j) Commit) _ (wait-commit W (around W j) k))))
+  -- a rule that asks for a guard which is not quiet, or asks nothing
+  not-quiet : (r q : ℕ) → (Never ≡ asks-in W j r) ⊎ (Quiet q ≡ asks-in W j r) → (Quiet q ≡ asks-in W j r → QuietIn W q q false) → Applies W D r j false
+  not-quiet r q (inl x) f = never-applies W D r j x
+  not-quiet r q (inr x) f = quiet-applies W D r j q false x (f x)
 
   -- ---------------------------------------------------------------------------------------------
   -- A statement, and an or-box in an or-box: the rule that takes it applies.
@@ -263,3 +241,71 @@ module _ (W D : List Word) (j K : ℕ) (e : K ≡ takes-in W j) where
 
   pub at-once : (K ≡ 10 → ⊥) → (K ≡ 7 → ⊥) → (K ≡ 9 → ⊥) → (K ≡ 5 → ⊥) → (K ≡ 6 → ⊥) → MovedAt W D j true
   at-once o c d a b = moved-at true (λ z. (o, c)) (λ s pl m q. always s pl (kind-at pl) m q (e ∙ kind-is W j s pl q) a b c d)
+
+-- ---------------------------------------------------------------------------------------------
+-- By the shape alone.
+
+module _ (W : List Word) (j K : ℕ) (e : K ≡ takes-in W j) where
+  differs : false ≡ true → ⊥
+  differs z = let y : _≡_ {A = ℕ} 0 1 = ap (λ (x : Bool). elim x [ true ↦ 1 | false ↦ 0 ]) z in omega (arith, y)
+
+  shape-rests : (NoneQuiet W j → (D : List Word) → MovedAt W D j false) → ByShape W j false
+  shape-rests f = record { stirs = λ z. absurd (differs z); rests = λ z. f }
+
+  shape-stirs : ((D : List Word) → MovedAt W D j true) → ByShape W j true
+  shape-stirs f = record { stirs = λ z. f; rests = λ z. absurd (differs (sym z)) }
+
+  pub shape-no-place : K ≡ 10 → ByShape W j false
+  shape-no-place h = shape-rests (λ n D. no-place W D j K e h)
+
+  pub shape-and-box : K ≡ 7 → ByShape W j false
+  shape-and-box h = shape-rests (λ n D. and-box-there W D j K e h)
+
+  pub shape-or-box : K ≡ 9 → ByShape W j false
+  shape-or-box h = shape-rests (λ n D. or-box-there W D j K e h)
+
+  pub shape-at-once : (K ≡ 10 → ⊥) → (K ≡ 7 → ⊥) → (K ≡ 9 → ⊥) → (K ≡ 5 → ⊥) → (K ≡ 6 → ⊥) → ByShape W j true
+  shape-at-once o c d a b = shape-stirs (λ D. at-once W D j K e o c d a b)
+
+  -- a choice-box: empty
+  module _ (h : K ≡ 5) (a : Bool) (ea : a ≡ ends-at W (j + 1)) where
+    pub shape-empty : a ≡ true → ByShape W j true
+    unfolding asks-in asks-10
+    shape-empty z = shape-stirs (λ D. moved-10 W D j K e true h (always-applies W D 10 j (one-holds a (ends-at W (j + 1)) ea z)) refl)
+
+    module _ (z : a ≡ false) where
+      by-six : (b : Bool) (D : List Word) → Applies W D 6 j b → MovedAt W D j b
+      unfolding asks-in asks-10
+      by-six b D x = moved-6 W D j K e false b h (never-applies W D 10 j (one-fails a (ends-at W (j + 1)) Always ea z)) refl x
+
+      -- with `?`: it is promoted if its guard is solved and the only one
+      pub shape-promoted : (b c r : Bool) → b ≡ shapes.kind-at W j Wait → b ≡ true → c ≡ solved-at W (j + 2) → c ≡ true → r ≡ one-at W j → ByShape W j r
+      unfolding asks-in asks-6
+      shape-promoted b c true eb zb ec zc er = shape-stirs (λ D. by-six true D (always-applies W D 6 j (ap (λ (x : Bool). cond x Always Never) er ∙ waiting (one-at W j) (solved-at W (j + 2)) (shapes.kind-at W j Wait) (j + 2) (sym ec ∙ zc) (sym eb ∙ zb))))
+      shape-promoted b c false eb zb ec zc er = shape-rests (λ n D. by-six false D (never-applies W D 6 j (ap (λ (x : Bool). cond x Always Never) er ∙ waiting (one-at W j) (solved-at W (j + 2)) (shapes.kind-at W j Wait) (j + 2) (sym ec ∙ zc) (sym eb ∙ zb))))
+
+      pub shape-unsolved : (c : Bool) → c ≡ solved-at W (j + 2) → c ≡ false → ByShape W j false
+      unfolding asks-in asks-6
+      shape-unsolved c ec zc = shape-rests (λ n D. by-six false D (never-applies W D 6 j (unsolved (one-at W j) (solved-at W (j + 2)) _ (sym ec ∙ zc))))
+
+      -- with another operator its guard must be quiet
+      pub shape-asked : (b : Bool) → b ≡ shapes.kind-at W j Wait → b ≡ false → ByShape W j false
+      unfolding asks-in asks-6
+      shape-asked b eb zb = shape-rests (λ n D. by-six false D (not-quiet W D j K e 6 (j + 2) (not-waiting (one-at W j) (solved-at W (j + 2)) (shapes.kind-at W j Wait) (j + 2) (sym eb ∙ zb)) (n .promotion (sym e ∙ h))))
+
+  -- a guarded goal: its guard is failure
+  module _ (h : K ≡ 6) (a : Bool) (ea : a ≡ failure-at W (j + 1)) where
+    pub shape-failed : a ≡ true → ByShape W j true
+    unfolding asks-in asks-11
+    shape-failed z = shape-stirs (λ D. moved-11 W D j K e true h (always-applies W D 11 j (one-holds a (failure-at W (j + 1)) ea z)) refl)
+
+    -- or an or-box with parts; else it must be quiet
+    pub shape-parts : a ≡ false → (r : Bool) → r ≡ parts-at W (j + 1) → ByShape W j r
+    unfolding asks-in asks-7 asks-8 asks-11 asks-13
+    shape-parts z true er = shape-stirs (λ D. moved-13 W D j K e h (always-applies W D 13 j (one-holds true (parts-at W (j + 1)) er refl)))
+    shape-parts z false er = shape-rests (λ n D.
+        rests-four W D j K e h
+        (never-applies W D 11 j (one-fails a (failure-at W (j + 1)) Always ea z))
+        (never-applies W D 13 j (one-fails false (parts-at W (j + 1)) Always er refl))
+        (not-quiet W D j K e 7 (j + 1) (three-tests (shapes.kind-at W (around W j) Cond) (solved-at W (j + 1)) (right-at W j) (j + 1)) (n .condition (sym e ∙ h)))
+        (not-quiet W D j K e 8 (j + 1) (three-tests (shapes.kind-at W (around W j) Commit) (solved-at W (j + 1)) (left-at W j || right-at W j) (j + 1)) (n .commitment (sym e ∙ h))))

@@ -1,9 +1,9 @@
 -- A place at or inside a goal, by positions; whether a rule that is determinate rewrites the goal or something inside it when it is
 -- applied there. Each is said of every state that the words mean. Assumes nothing.
 use mathlib.Core.Path.{_≡_}
-use mathlib.Core.Bool.{Bool, true}
+use mathlib.Core.Bool.{Bool, true, false}
 use mathlib.Core.List.{List}
-use Prim.Native.Nat.{ℕ, _<_, _≤_}
+use Prim.Native.Nat.{ℕ, _+_, _<_, _≤_}
 use Rattle.akl.specs.Base.{any, range}
 use Rattle.akl.specs.Configuration.{Kind, Node, Ctx}
 use Rattle.akl.specs.Places.{Place, at}
@@ -11,7 +11,10 @@ use Rattle.akl.specs.Stability.{disturbs}
 use Rattle.mem_words.specs.declared.Word.{Word}
 use Rattle.store_form.specs.State.{State, program-of, config-of}
 use Rattle.rule_effects.specs.Effects.{behind}
+use Rattle.rule_ranges.specs.Asked.{QuietIn}
 use Rattle.rule_kinds.specs.Kinds.{takes-in}
+use Rattle.rule_applies.specs.declared.Asks.the-variants.{Quiet}
+use Rattle.rule_applies.specs.Asking.{asks-in}
 use Rattle.step_meant.specs.Meant.{Meant, StandsAt}
 
 -- some state, a goal of its configuration at g and a place at or inside it at j are meant
@@ -39,7 +42,13 @@ pub record MovedAt (W D : List Word) (j : ℕ) (b : Bool) : Type 0 where
   pub right : (takes-in W j ≡ 7 → ⊥) → (g : ℕ) → g < j → j < behind W g → Disturbed W D g j b
   pub place : b ≡ true → (takes-in W j ≡ 10 → ⊥) × (takes-in W j ≡ 7 → ⊥)
 
--- some state is meant
-pub record Means (W D : List Word) : Type 0 where
-  pub state : State
-  pub meant : Meant W D state
+-- no guard is quiet that rule 6, 7 or 8 asks for at the place at j
+pub record NoneQuiet (W : List Word) (j : ℕ) : Type 0 where
+  pub promotion : takes-in W j ≡ 5 → Quiet (j + 2) ≡ asks-in W j 6 → QuietIn W (j + 2) (j + 2) false
+  pub condition : takes-in W j ≡ 6 → Quiet (j + 1) ≡ asks-in W j 7 → QuietIn W (j + 1) (j + 1) false
+  pub commitment : takes-in W j ≡ 6 → Quiet (j + 1) ≡ asks-in W j 8 → QuietIn W (j + 1) (j + 1) false
+
+-- The same from the shape alone: a rule applies whatever the solver would say; or none does unless it asks for a guard that is quiet.
+pub record ByShape (W : List Word) (j : ℕ) (b : Bool) : Type 0 where
+  pub stirs : b ≡ true → (D : List Word) → MovedAt W D j true
+  pub rests : b ≡ false → NoneQuiet W j → (D : List Word) → MovedAt W D j false

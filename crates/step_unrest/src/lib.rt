@@ -8,7 +8,7 @@ ghost use Rattle.work_tables.specs.Tables.{Laid};
 ghost use Rattle.rule_effects.specs.Effects.{behind};
 ghost use Rattle.rule_kinds.specs.Kinds.{takes-in};
 ghost use Rattle.step_meant.specs.Asked.{Unrest, CanAsk};
-ghost use Rattle.step_unrest.specs.Disturbing.{CanPlace, DisturbsAt, Disturbed, MovedAt, Means};
+ghost use Rattle.step_unrest.specs.Disturbing.{CanPlace, DisturbsAt, Disturbed, ByShape};
 use mem_sorts::Kind;
 use rule_table::Mode;
 use rule_table::Row;
@@ -75,51 +75,41 @@ pub fn unrest_at(t: &[u8], d: &[u8], w: &mut [u8], g: usize, j: usize) -> bool
     false
 }
 
-// Whether rule 10 or 6 applies to the choice-box at `j`. What is near is looked at first.
-fn choice_box_moves(t: &[u8], d: &[u8], w: &mut [u8], j: usize) -> bool
-    requires { ⌜ Laid (now w) × Means (words (now t)) (words (now d)) × (j < length (words (now t))) × (5 ≡ takes-in (words (now t)) j) ⌝ }
-    ensures { λ b. ⌜ MovedAt (words (now (t .entry))) (words (now (d .entry))) j b × Laid (now (w .exit)) ⌝ }
+// Whether rule 10 applies to the choice-box at `j`, or rule 6 without a question to the solver. What is near is looked at first.
+fn choice_box_moves(t: &[u8], j: usize) -> bool
+    requires { ⌜ (j < length (words (now t))) × (5 ≡ takes-in (words (now t)) j) ⌝ }
+    ensures { λ b. ⌜ ByShape (words (now (t .entry))) j b ⌝ }
 {
     let c = mem_words::count(t);
-    if step_applies::applies(t, d, w, 10, j) {
+    if rule_shapes::ends(t, j + 1) {
         return true; // empty
     }
-    if rule_guards::solved(t, j + 2) {
-        return step_applies::applies(t, d, w, 6, j);
+    if rule_shapes::is_kind(t, j, Kind::Wait) {
+        if rule_guards::solved(t, j + 2) {
+            return rule_beside::has_one(t, j); // promoted if it is the only one
+        }
+        return false; // not solved
     }
-    false // not promoted
+    false // promoted only if its guard is quiet
 }
 
-// Whether rule 11, 13, 7 or 8 applies to the guarded goal at `j`. What is near is looked at first.
-fn guarded_goal_moves(t: &[u8], d: &[u8], w: &mut [u8], j: usize) -> bool
-    requires { ⌜ Laid (now w) × Means (words (now t)) (words (now d)) × (j < length (words (now t))) × (6 ≡ takes-in (words (now t)) j) ⌝ }
-    ensures { λ b. ⌜ MovedAt (words (now (t .entry))) (words (now (d .entry))) j b × Laid (now (w .exit)) ⌝ }
+// Whether rule 11 or 13 applies to the guarded goal at `j`; 7 and 8 ask the solver.
+fn guarded_goal_moves(t: &[u8], j: usize) -> bool
+    requires { ⌜ (j < length (words (now t))) × (6 ≡ takes-in (words (now t)) j) ⌝ }
+    ensures { λ b. ⌜ ByShape (words (now (t .entry))) j b ⌝ }
 {
     let c = mem_words::count(t);
-    if step_applies::applies(t, d, w, 11, j) {
+    if rule_guards::failure(t, j + 1) {
         return true; // failed
     }
-    if step_applies::applies(t, d, w, 13, j) {
-        return true; // distributed
-    }
-    if rule_guards::solved(t, j + 1) {
-        let a = rule_around::opening_of(t, j);
-        if rule_shapes::is_kind(t, a, Kind::Wait) {
-            return false; // in a `?`
-        }
-        if step_applies::applies(t, d, w, 7, j) {
-            return true; // condition
-        }
-        return step_applies::applies(t, d, w, 8, j);
-    }
-    false // not solved
+    rule_guards::has_parts(t, j + 1) // distributed
 }
 
-// Whether a determinate rule takes the place at `j` of the configuration in `t`, whose program is in `d`, and applies. It then disturbs
-// every goal that the place is inside of. And-boxes are left to others.
-pub fn disturbed_at(t: &[u8], d: &[u8], w: &mut [u8], j: usize) -> bool
-    requires { ⌜ Laid (now w) × Means (words (now t)) (words (now d)) × (j < length (words (now t))) ⌝ }
-    ensures { λ b. ⌜ MovedAt (words (now (t .entry))) (words (now (d .entry))) j b × Laid (now (w .exit)) ⌝ }
+// Whether a determinate rule takes the place at `j` of the configuration in `t` and applies, as far as the shape decides it. It then
+// disturbs every goal that the place is inside of. And-boxes, and guards that must be quiet, are left to others.
+pub fn moved_at(t: &[u8], j: usize) -> bool
+    requires { ⌜ j < length (words (now t)) ⌝ }
+    ensures { λ b. ⌜ ByShape (words (now (t .entry))) j b ⌝ }
 {
     let k = rule_kinds::kind(t, j);
     if k == 10 {
@@ -132,10 +122,10 @@ pub fn disturbed_at(t: &[u8], d: &[u8], w: &mut [u8], j: usize) -> bool
         return false; // an or-box that no rule takes
     }
     if k == 5 {
-        return choice_box_moves(t, d, w, j);
+        return choice_box_moves(t, j);
     }
     if k == 6 {
-        return guarded_goal_moves(t, d, w, j);
+        return guarded_goal_moves(t, j);
     }
     true // a statement, or an or-box in an or-box
 }

@@ -15,7 +15,6 @@ use Rattle.solve_tells.proofs.Rooms.{drawn-none}
 use Rattle.solve_quiet.specs.Solver.{Marking}
 use Rattle.work_tables.specs.Tables.{logOf, localsOf, Laid, laid-after, length-log}
 use Rattle.work_enter.specs.Enters.{At}
-use Rattle.work_judge.specs.Judging.{Locals}
 use Rattle.rule_words.specs.Scans.{close}
 use Rattle.rule_effects.specs.Effects.{behind}
 use Rattle.rule_effects.specs.Conditions.{kind-at}
@@ -31,15 +30,15 @@ use Rattle.step_open.specs.Opened.{Opened}
 use Rattle.step_open.proofs.Chains.{opened-first, opened-at, chain-all}
 use Rattle.step_turn.specs.Boxes.{Told, Framed}
 use Rattle.step_turn.specs.Stood.{CanWalk, Stood}
-use Rattle.step_walk.specs.Calm.{BoxesCalm, Boxed}
+use Rattle.step_walk.specs.Calm.{BoxesCalm, Boxed, Walks}
 use Rattle.step_walk.proofs.Answers.{goal-last}
 
-module _ (W : List Word) (L A B : List ℕ) (g : ℕ) (h : Laid L) (c : CanWalk W g) (lc : Locals L (locals-at W g) A) (z : Zeroed 16384 212992 A B) where
+module _ (W : List Word) (A B : List ℕ) (g : ℕ) (h : Laid A) (c : CanWalk W g) (z : Zeroed 16384 212992 A B) where
   start : At B 0 0 0 []
-  start = start-at (laid-after h (lc .rest)) z
+  start = start-at h z
 
   pub env-can : CanTellAll W B (ranges-from W 0 g) 0 0 0
-  env-can = start-can (laid-after h (lc .rest)) z (c .roomy) (c .around) (from-drawn W (0 ∷ c .roomy .others) (c .roomy .drawn) 0 g)
+  env-can = start-can h z (c .roomy) (c .around) (from-drawn W (0 ∷ c .roomy .others) (c .roomy .drawn) 0 g)
 
   -- the walk begins
   module _ (Y : List ℕ) (u n a : ℕ) (r : Around) (er : r ≡ All u n a) (t : ToldAll W B (ranges-from W 0 g) 0 0 0 Y r) where
@@ -50,7 +49,7 @@ module _ (W : List Word) (L A B : List ℕ) (g : ℕ) (h : Laid L) (c : CanWalk 
     on = all-of .on [] start
 
     pub stood-first : Stood W g n Y g 0 0 u n a
-    unfolding Told Framed localsOf
+    unfolding Told Framed
     stood-first = record {
       env = on .news ++ [];
       brackets = [];
@@ -68,7 +67,17 @@ module _ (W : List Word) (L A B : List ℕ) (g : ℕ) (h : Laid L) (c : CanWalk 
       at = on .at;
       solved = λ lab. on .solved lab (none-satisfied lab);
       logged = λ us q. all-of .drawn (0 ∷ us) (drawn-none (logOf 0 B) (0 ∷ us) (inl refl) (length-log 0 (start .walk .laid) (record { most = omega arith }))) (from-drawn W (0 ∷ us) q 0 g);
-      locals = subst (λ (l : List ℕ). Marking l (locals-at W g)) (sym (cut-right 335872 401408 (omega arith) (t .rest) ∙ cut-right 335872 401408 (omega arith) (z .rest))) (lc .marks);
+    }
+
+    -- what is marked is as it was
+    pub same-locals : localsOf Y ≡ localsOf A
+    unfolding localsOf
+    same-locals = cut-right 335872 401408 (omega arith) (t .rest) ∙ cut-right 335872 401408 (omega arith) (z .rest)
+
+    pub walks-first : Marking (localsOf A) (locals-at W g) → Walks W g n Y g 0 0 u n a
+    walks-first m = record {
+      stood = stood-first;
+      locals = subst (λ (l : List ℕ). Marking l (locals-at W g)) (sym same-locals) m;
       calm = record { at = λ i p q e. absurd (omega arith) };
     }
 

@@ -1,14 +1,14 @@
 // The and-boxes of a goal tested in one walk over its words: their stores are told and taken back as the boxes are entered and left.
 ghost use Rattle.mem_words.specs.Words.{words};
 ghost use Rattle.work_tables.specs.Tables.{Laid};
-ghost use Rattle.step_turn.specs.Stood.{CanWalk, Stood};
-ghost use Rattle.step_walk.specs.Calm.{Boxed, BoxesCalm};
+ghost use Rattle.step_turn.specs.Stood.{CanWalk};
+ghost use Rattle.step_walk.specs.Calm.{Boxed, BoxesCalm, Walks};
 use mem_sorts::Kind;
 use rule_tells::Around;
 use step_turn::Next;
 
 // Whether no and-box begins at or inside the goal at `g`.
-fn boxless(t: &[u8], g: usize) -> bool
+pub fn boxless(t: &[u8], g: usize) -> bool
     ensures { λ r. ⌜ Boxed (words (now (t .entry))) g r ⌝ }
 {
     let e = rule_close::end_of(t, g);
@@ -24,7 +24,7 @@ fn boxless(t: &[u8], g: usize) -> bool
 
 // Goes over the words of the goal at `g`, whose environment was told up to the mark (`u`, `n`, `a`).
 fn walk(t: &[u8], w: &mut [u8], g: usize, u: usize, n: usize, a: usize) -> bool
-    requires { ⌜ CanWalk (words (now t)) g × Stood (words (now t)) g n (now w) g 0 0 u n a ⌝ }
+    requires { ⌜ CanWalk (words (now t)) g × Walks (words (now t)) g n (now w) g 0 0 u n a ⌝ }
     ensures { λ r. ⌜ BoxesCalm (words (now (t .entry))) g r × Laid (now (w .exit)) ⌝ }
 {
     let e = rule_close::end_of(t, g);
@@ -35,15 +35,21 @@ fn walk(t: &[u8], w: &mut [u8], g: usize, u: usize, n: usize, a: usize) -> bool
     let mut y = n;
     let mut z = a;
     while j < e {
-        let Next::On(d1, k1, x1, y1, z1) = step_turn::turn(t, w, n, j, d, k, x, y, z) else {
-            return false; // the box at j is not calm
+        let Next::On(d1, k1, x1, y1, z1) = step_turn::turn(t, w, j, d, k, x, y, z) else {
+            return false; // the box at j has no solution
         };
+        let i = j;
         d = d1;
         k = k1;
         x = x1;
         y = y1;
         z = z1;
         j += 1;
+        if rule_shapes::is_kind(t, i, Kind::And) {
+            if !step_quiet::silent(w, x, y, z, n) {
+                return false; // it is not quiet
+            }
+        }
     }
     true
 }

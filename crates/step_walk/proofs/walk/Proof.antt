@@ -2,16 +2,20 @@
 use mathlib.Core.Path.{_≡_, refl, _∙_, subst}
 use Prim.Native.Nat.{_-_, _≤_}
 use native.Mathlib.Omega.{arith}
+use borrow.Author.Tests.{not-true, not-false}
 use lib.ListN.{length}
 use Rattle.mem_words.specs.Words.{words, length-words}
+use Rattle.work_tables.specs.Tables.{laid-after}
 use Rattle.step_turn.specs.Stood.{Stood, Goes}
-use Rattle.step_walk.proofs.Answers.{goal-first, boxes-loud, boxes-calm}
+use Rattle.step_walk.specs.Calm.{Walks}
+use Rattle.step_walk.proofs.Answers.{goal-first, boxes-none, boxes-loud, boxes-calm}
+use Rattle.step_walk.proofs.Calming.{ask-can, walks-else, walks-box, box-quiet}
 use borrow.Author.Needs.{needs}
 use Rattle.step_walk.proofs.walk.Statement.{statement}
 use Rattle.step_walk.proofs.walk.Tie as tie
 
 abbrev Inv-loop : tie.InvT-loop
-Inv-loop t w₀ g u n a e j₀ d₀ k₀ x₀ y₀ z₀ w j d k x y z = (g ≤ j) × (j ≤ e) × Stood (words t) g n w j d k x y z × (length w ≡ length w₀)
+Inv-loop t w₀ g u n a e j₀ d₀ k₀ x₀ y₀ z₀ w j d k x y z = (g ≤ j) × (j ≤ e) × Walks (words t) g n w j d k x y z × (length w ≡ length w₀)
 
 abbrev μ-loop : tie.MeasureT-loop
 μ-loop t w₀ g u n a e j₀ d₀ k₀ x₀ y₀ z₀ w j d k x y z = e - j
@@ -23,7 +27,7 @@ loop-holds : tie.Need-loop-holds Inv-loop μ-loop
 loop-holds c = (omega arith, omega (arith, c .end-of .ensures .0, goal-first (words (c .before .before .before .args .t .now)) (c .before .before .before .args .g) (c .before .before .before .pre .0)), c .before .before .before .pre .1, refl)
 
 turn-requires : tie.Need-turn-requires Inv-loop μ-loop
-turn-requires c κs = record { goal = c .before .before .before .before .before .before .args .g; can = c .before .before .before .before .before .before .pre .0; stood = c .before .before .loop .inv .2; low = omega (arith, c .before .before .before .end-of .ensures .0) }
+turn-requires c κs = record { goal = (c .before .before .before .before .before .before .args .g); from = c .before .before .before .before .before .before .args .n; can = c .before .before .before .before .before .before .pre .0; stood = c .before .before .loop .inv .2 .stood; low = omega (arith, c .before .before .before .end-of .ensures .0) }
 
 enum-known-d1 : tie.Need-enum-known-d1 Inv-loop μ-loop
 enum-known-d1 c = search needs
@@ -35,22 +39,40 @@ same-length : tie.Need-same-length Inv-loop μ-loop
 same-length c = c .before .before .before .before .turn .kept .1 .0 ∙ c .before .before .before .before .before .before .before .loop .inv .3
 
 returns : tie.Need-returns Inv-loop μ-loop
-returns c = (boxes-loud (words (c .before .before .before .before .before .before .before .before .before .before .before .args .t .now)) (c .before .before .before .before .before .before .before .before .before .before .before .args .g) (c .before .before .before .before .before .before .before .loop .j) (c .before .before .before .before .before .before .before .loop .inv .0) (omega (arith, c .before .before .before .before .before .before .before .before .end-of .ensures .0)) (subst (Goes (words (c .before .before .before .before .before .before .before .before .before .before .before .args .t .now)) (c .before .before .before .before .before .before .before .before .before .before .before .args .g) (c .before .before .before .before .before .before .before .before .before .before .before .args .n) (c .before .before .before .before .before .before .before .loop .j) _) (c .enum-told .given .1) (c .before .before .before .before .turn .ensures .goes (c .before .before .before .before .before .before .before .before .before .before .before .args .g) (c .before .before .before .before .before .before .before .before .before .before .before .pre .0) (c .before .before .before .before .before .before .before .loop .inv .2) (omega (arith, c .before .before .before .before .before .before .before .before .end-of .ensures .0)))), c .before .before .before .before .turn .ensures .laid)
+returns c = (boxes-none (words (c .before .before .before .before .before .before .before .before .before .before .before .args .t .now)) (c .before .before .before .before .before .before .before .before .before .before .before .args .g) (c .before .before .before .before .before .before .before .loop .j) (c .before .before .before .before .before .before .before .loop .inv .0) (omega (arith, c .before .before .before .before .before .before .before .before .end-of .ensures .0)) (subst (Goes (words (c .before .before .before .before .before .before .before .before .before .before .before .args .t .now)) (c .before .before .before .before .before .before .before .before .before .before .before .args .g) (c .before .before .before .before .before .before .before .before .before .before .before .args .n) (c .before .before .before .before .before .before .before .loop .j) _) (c .enum-told .given .1) (c .before .before .before .before .turn .ensures .goes (c .before .before .before .before .before .before .before .before .before .before .before .args .g) (c .before .before .before .before .before .before .before .before .before .before .before .args .n) (c .before .before .before .before .before .before .before .before .before .before .before .pre .0) (c .before .before .before .before .before .before .before .loop .inv .2 .stood) (omega (arith, c .before .before .before .before .before .before .before .before .end-of .ensures .0)))), c .before .before .before .before .turn .ensures .laid)
 
 add-j : tie.Need-add-j Inv-loop μ-loop
 add-j c = omega (arith, c .before .before .before .before .before .before .before .before .before .end-of .ensures .1, length-words (c .before .before .before .before .before .before .before .before .before .before .before .before .args .t .now))
+
+is-kind-requires : tie.Need-is-kind-requires Inv-loop μ-loop
+is-kind-requires c κs = search needs
+
+silent-requires : tie.Need-silent-requires Inv-loop μ-loop
+silent-requires c κs = ask-can (words (c .before .before .before .before .before .before .before .before .before .before .before .before .before .before .before .args .t .now)) (c .before .before .before .before .before .before .before .before .before .before .before .before .before .before .before .args .g) (c .before .before .before .before .before .before .before .before .before .before .before .before .before .before .before .args .n) _ (c .before .before .before .before .before .before .before .before .before .before .before .loop .j) _ _ _ _ _ (subst (Goes (words (c .before .before .before .before .before .before .before .before .before .before .before .before .before .before .before .args .t .now)) (c .before .before .before .before .before .before .before .before .before .before .before .before .before .before .before .args .g) (c .before .before .before .before .before .before .before .before .before .before .before .before .before .before .before .args .n) (c .before .before .before .before .before .before .before .before .before .before .before .loop .j) _) (c .before .before .before .before .d1 .given .1) (c .before .before .before .before .before .before .before .before .turn .ensures .goes (c .before .before .before .before .before .before .before .before .before .before .before .before .before .before .before .args .g) (c .before .before .before .before .before .before .before .before .before .before .before .before .before .before .before .args .n) (c .before .before .before .before .before .before .before .before .before .before .before .before .before .before .before .pre .0) (c .before .before .before .before .before .before .before .before .before .before .before .loop .inv .2 .stood) (omega (arith, c .before .before .before .before .before .before .before .before .before .before .before .before .end-of .ensures .0)))) (c .before .before .before .before .before .before .before .before .before .before .before .before .before .before .before .pre .0)
+
+same-length-2 : tie.Need-same-length-2 Inv-loop μ-loop
+same-length-2 c = c .before .before .before .silent .kept .0 ∙ c .before .before .before .before .before .before .before .before .before .before .before .before .turn .kept .1 .0 ∙ c .before .before .before .before .before .before .before .before .before .before .before .before .before .before .before .loop .inv .3
+
+returns-2 : tie.Need-returns-2 Inv-loop μ-loop
+returns-2 c = (boxes-loud (words (c .before .before .before .before .before .before .before .before .before .before .before .before .before .before .before .before .before .before .before .args .t .now)) (c .before .before .before .before .before .before .before .before .before .before .before .before .before .before .before .before .before .before .before .args .g) (c .before .before .before .before .before .before .before .before .before .before .before .before .before .before .before .loop .j) (c .before .before .before .before .before .before .is-kind .result) (c .before .before .before .silent .result) (c .before .before .before .before .before .before .before .before .before .before .before .before .before .before .before .loop .inv .0) (omega (arith, c .before .before .before .before .before .before .before .before .before .before .before .before .before .before .before .before .end-of .ensures .0)) (c .before .before .before .before .before .before .is-kind .ensures) (c .before .before .before .before .before .if1 .taken) (box-quiet (words (c .before .before .before .before .before .before .before .before .before .before .before .before .before .before .before .before .before .before .before .args .t .now)) (c .before .before .before .before .before .before .before .before .before .before .before .before .before .before .before .before .before .before .before .args .g) (c .before .before .before .before .before .before .before .before .before .before .before .before .before .before .before .before .before .before .before .args .n) _ (c .before .before .before .before .before .before .before .before .before .before .before .before .before .before .before .loop .j) _ _ _ _ _ (subst (Goes (words (c .before .before .before .before .before .before .before .before .before .before .before .before .before .before .before .before .before .before .before .args .t .now)) (c .before .before .before .before .before .before .before .before .before .before .before .before .before .before .before .before .before .before .before .args .g) (c .before .before .before .before .before .before .before .before .before .before .before .before .before .before .before .before .before .before .before .args .n) (c .before .before .before .before .before .before .before .before .before .before .before .before .before .before .before .loop .j) _) (c .before .before .before .before .before .before .before .before .d1 .given .1) (c .before .before .before .before .before .before .before .before .before .before .before .before .turn .ensures .goes (c .before .before .before .before .before .before .before .before .before .before .before .before .before .before .before .before .before .before .before .args .g) (c .before .before .before .before .before .before .before .before .before .before .before .before .before .before .before .before .before .before .before .args .n) (c .before .before .before .before .before .before .before .before .before .before .before .before .before .before .before .before .before .before .before .pre .0) (c .before .before .before .before .before .before .before .before .before .before .before .before .before .before .before .loop .inv .2 .stood) (omega (arith, c .before .before .before .before .before .before .before .before .before .before .before .before .before .before .before .before .end-of .ensures .0)))) _ (c .before .before .before .before .before .before .before .before .before .before .before .before .turn .ensures .locals) (c .before .before .before .before .before .before .before .before .before .before .before .before .before .before .before .loop .inv .2 .locals) (c .before .before .before .before .before .before .before .before .before .before .before .before .before .before .before .loop .inv .2 .calm) _ (c .before .before .before .silent .result) (c .before .before .before .silent .ensures)) (not-true (c .before .before .before .silent .result) (c .if2 .taken)), laid-after (c .before .before .before .before .before .before .before .before .before .before .before .before .turn .ensures .laid) (c .before .before .before .silent .ensures .rest))
 
 loop-less : tie.Need-loop-less Inv-loop μ-loop
 loop-less c = omega arith
 
 loop-again : tie.Need-loop-again Inv-loop μ-loop
-loop-again c = (omega (arith, c .before .before .before .before .before .before .before .before .loop .inv .0), omega arith, subst (Goes (words (c .before .before .before .before .before .before .before .before .before .before .before .before .args .t .now)) (c .before .before .before .before .before .before .before .before .before .before .before .before .args .g) (c .before .before .before .before .before .before .before .before .before .before .before .before .args .n) (c .before .before .before .before .before .before .before .before .loop .j) _) (c .before .d1 .given .1) (c .before .before .before .before .before .turn .ensures .goes (c .before .before .before .before .before .before .before .before .before .before .before .before .args .g) (c .before .before .before .before .before .before .before .before .before .before .before .before .pre .0) (c .before .before .before .before .before .before .before .before .loop .inv .2) (omega (arith, c .before .before .before .before .before .before .before .before .before .end-of .ensures .0))), c .before .before .before .before .before .turn .kept .1 .0 ∙ c .before .before .before .before .before .before .before .before .loop .inv .3)
+loop-again c = (omega (arith, c .before .before .before .before .before .before .before .before .before .before .before .before .before .before .before .loop .inv .0), omega arith, walks-box (words (c .before .before .before .before .before .before .before .before .before .before .before .before .before .before .before .before .before .before .before .args .t .now)) (c .before .before .before .before .before .before .before .before .before .before .before .before .before .before .before .before .before .before .before .args .g) (c .before .before .before .before .before .before .before .before .before .before .before .before .before .before .before .before .before .before .before .args .n) _ (c .before .before .before .before .before .before .before .before .before .before .before .before .before .before .before .loop .j) _ _ _ _ _ (subst (Goes (words (c .before .before .before .before .before .before .before .before .before .before .before .before .before .before .before .before .before .before .before .args .t .now)) (c .before .before .before .before .before .before .before .before .before .before .before .before .before .before .before .before .before .before .before .args .g) (c .before .before .before .before .before .before .before .before .before .before .before .before .before .before .before .before .before .before .before .args .n) (c .before .before .before .before .before .before .before .before .before .before .before .before .before .before .before .loop .j) _) (c .before .before .before .before .before .before .before .before .d1 .given .1) (c .before .before .before .before .before .before .before .before .before .before .before .before .turn .ensures .goes (c .before .before .before .before .before .before .before .before .before .before .before .before .before .before .before .before .before .before .before .args .g) (c .before .before .before .before .before .before .before .before .before .before .before .before .before .before .before .before .before .before .before .args .n) (c .before .before .before .before .before .before .before .before .before .before .before .before .before .before .before .before .before .before .before .pre .0) (c .before .before .before .before .before .before .before .before .before .before .before .before .before .before .before .loop .inv .2 .stood) (omega (arith, c .before .before .before .before .before .before .before .before .before .before .before .before .before .before .before .before .end-of .ensures .0)))) _ (c .before .before .before .before .before .before .before .before .before .before .before .before .turn .ensures .locals) (c .before .before .before .before .before .before .before .before .before .before .before .before .before .before .before .loop .inv .2 .locals) (c .before .before .before .before .before .before .before .before .before .before .before .before .before .before .before .loop .inv .2 .calm) _ (c .before .before .before .silent .result) (c .before .before .before .silent .ensures) (not-false (c .before .before .before .silent .result) (c .if2 .left)), c .before .before .before .silent .kept .0 ∙ c .before .before .before .before .before .before .before .before .before .before .before .before .turn .kept .1 .0 ∙ c .before .before .before .before .before .before .before .before .before .before .before .before .before .before .before .loop .inv .3)
 
-same-length-2 : tie.Need-same-length-2 Inv-loop μ-loop
-same-length-2 c = c .before .loop .inv .3
+loop-less-2 : tie.Need-loop-less-2 Inv-loop μ-loop
+loop-less-2 c = omega arith
 
-returns-2 : tie.Need-returns-2 Inv-loop μ-loop
-returns-2 c = (boxes-calm (words (c .before .before .before .before .before .args .t .now)) (c .before .before .before .before .before .args .g) (c .before .before .before .before .before .pre .0) (c .before .loop .inv .2) (omega (arith, c .before .loop .inv .1, c .before .before .end-of .ensures .0)), c .before .loop .inv .2 .at .walk .laid)
+loop-again-2 : tie.Need-loop-again-2 Inv-loop μ-loop
+loop-again-2 c = (omega (arith, c .before .before .before .before .before .before .before .before .before .before .loop .inv .0), omega arith, walks-else (words (c .before .before .before .before .before .before .before .before .before .before .before .before .before .before .args .t .now)) (c .before .before .before .before .before .before .before .before .before .before .before .before .before .before .args .g) (c .before .before .before .before .before .before .before .before .before .before .before .before .before .before .args .n) _ (c .before .before .before .before .before .before .before .before .before .before .loop .j) _ _ _ _ _ (subst (Goes (words (c .before .before .before .before .before .before .before .before .before .before .before .before .before .before .args .t .now)) (c .before .before .before .before .before .before .before .before .before .before .before .before .before .before .args .g) (c .before .before .before .before .before .before .before .before .before .before .before .before .before .before .args .n) (c .before .before .before .before .before .before .before .before .before .before .loop .j) _) (c .before .before .before .d1 .given .1) (c .before .before .before .before .before .before .before .turn .ensures .goes (c .before .before .before .before .before .before .before .before .before .before .before .before .before .before .args .g) (c .before .before .before .before .before .before .before .before .before .before .before .before .before .before .args .n) (c .before .before .before .before .before .before .before .before .before .before .before .before .before .before .pre .0) (c .before .before .before .before .before .before .before .before .before .before .loop .inv .2 .stood) (omega (arith, c .before .before .before .before .before .before .before .before .before .before .before .end-of .ensures .0)))) _ (c .before .before .before .before .before .before .before .turn .ensures .locals) (c .before .before .before .before .before .before .before .before .before .before .loop .inv .2 .locals) (c .before .before .before .before .before .before .before .before .before .before .loop .inv .2 .calm) (c .before .is-kind .result) (c .before .is-kind .ensures) (c .if1 .left), c .before .before .before .before .before .before .before .turn .kept .1 .0 ∙ c .before .before .before .before .before .before .before .before .before .before .loop .inv .3)
+
+same-length-3 : tie.Need-same-length-3 Inv-loop μ-loop
+same-length-3 c = c .before .loop .inv .3
+
+returns-3 : tie.Need-returns-3 Inv-loop μ-loop
+returns-3 c = (boxes-calm (words (c .before .before .before .before .before .args .t .now)) (c .before .before .before .before .before .args .g) (c .before .before .before .before .before .pre .0) (c .before .loop .inv .2) (omega (arith, c .before .loop .inv .1, c .before .before .end-of .ensures .0)), c .before .loop .inv .2 .stood .at .walk .laid)
 
 pub walk-spec : {M : Type 1} → statement M
-walk-spec = tie.close (tie.spec Inv-loop μ-loop end-of-requires loop-holds turn-requires enum-known-d1 enum-told same-length returns add-j loop-less loop-again same-length-2 returns-2)
+walk-spec = tie.close (tie.spec Inv-loop μ-loop end-of-requires loop-holds turn-requires enum-known-d1 enum-told same-length returns add-j is-kind-requires silent-requires same-length-2 returns-2 loop-less loop-again loop-less-2 loop-again-2 same-length-3 returns-3)
