@@ -24,7 +24,7 @@ use Rattle.step_open.proofs.Chains.{inside-more}
 use Rattle.step_turn.specs.Stood.{CanWalk}
 use Rattle.step_walk.specs.Calm.{BoxesCalm}
 use Rattle.step_waits.specs.Waits.{Operator, Waits}
-use Rattle.step_waits.proofs.Waiting.{tests-6}
+use Rattle.step_waits.proofs.Asking.{tests-6}
 use Rattle.step_guards.specs.Guards.{GuardsRest}
 use Rattle.step_guards.proofs.Resting.{waits-and}
 use Rattle.step_calm.proofs.Resting.{boxes-stir}

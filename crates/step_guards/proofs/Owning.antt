@@ -1,12 +1,12 @@
 -- The and-box that was entered last asked with its own locals: what was told for it, and what was told before. Assumes nothing.
-use mathlib.Core.Path.{_≡_, refl, ap, sym, _∙_, subst}
-use mathlib.Core.Bool.{Bool, true, false}
+use mathlib.Core.Path.{_≡_, ap, sym, _∙_, subst}
+use mathlib.Core.Bool.{Bool, true}
 use mathlib.Core.List.{List, [], _∷_, _++_}
-use Prim.Native.Nat.{ℕ, suc, _+_, _-_, _*_, _≤_, _<_}
+use Prim.Native.Nat.{ℕ, suc, _+_, _-_, _*_, _≤_}
 use native.Mathlib.Omega.{arith}
 use lib.ListN.{getD}
 use Rattle.constraint.specs.Tree.{Label}
-use Rattle.constraint.specs.Constraint.{Satisfiable, Fresh}
+use Rattle.constraint.specs.Constraint.{Satisfiable}
 use Rattle.mem_words.specs.declared.Word.{Word}
 use Rattle.mem_words.specs.Words.{words}
 use Rattle.mem_sorts.specs.declared.Kind.the-variants.{And}
@@ -20,7 +20,7 @@ use Rattle.work_marks.proofs.Walking.{walk-beside}
 use Rattle.work_marks.proofs.Verdicts.{lower-satisfiable}
 use Rattle.work_enter.specs.Enters.{At}
 use Rattle.rule_effects.specs.Conditions.{kind-at}
-use Rattle.rule_ranges.specs.Ranges.{ranges-from, told-all, locals-at}
+use Rattle.rule_ranges.specs.Ranges.{told-all, locals-at}
 use Rattle.rule_ranges.specs.Asked.{QuietIn}
 use Rattle.rule_ranges.proofs.Alike.{alike-same}
 use Rattle.rule_locals.specs.Inside.{Given}
@@ -31,7 +31,7 @@ use Rattle.step_open.proofs.Chains.{range-one}
 use Rattle.step_frames.specs.Frames.{framesOf, same-frames, Frame}
 use Rattle.step_quiet.specs.Silence.{CanSilence, Silence}
 use Rattle.step_turn.specs.Boxes.{Bracket, plain, box, places, marks, inner, boxes, Its, Told, Framed, Environment}
-use Rattle.step_turn.specs.Stood.{CanWalk, Stood}
+use Rattle.step_turn.specs.Stood.{Stood}
 use Rattle.step_turn.proofs.Stores.{boxes-few, around-alike}
 use Rattle.step_turn.proofs.Standing.{stood-still, quiet-alike}
 use Rattle.step_guards.specs.Guards.{CanAskOwn, OwnAsked}

@@ -31,7 +31,7 @@ use Rattle.step_turn.proofs.Standing.{stood-still}
 use Rattle.step_walk.specs.Calm.{BoxesCalm, Boxed}
 use Rattle.step_walk.proofs.Answers.{boxes-none}
 use Rattle.step_waits.specs.Waits.{Operator, Waits, CanWait, IsWaiting}
-use Rattle.step_waits.proofs.Waiting.{tests-6, tests-7, tests-8, takes-choice}
+use Rattle.step_waits.proofs.Asking.{tests-6, tests-7, tests-8, takes-choice}
 use Rattle.step_guards.specs.Guards.{GuardsRest, Operators, CanAskOwn, OwnAsked, RestTo, Asks}
 
 -- a guard that waits is an and-box

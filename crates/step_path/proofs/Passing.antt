@@ -9,8 +9,8 @@ use Rattle.mem_numbers.specs.Stored.{stored-same, stored-other}
 use Rattle.mem_words.specs.declared.Word.{Word}
 use Rattle.mem_words.specs.declared.Word.the-variants.{Bad}
 use Rattle.mem_parts.specs.Parts.{Outside}
-use Rattle.work_tables.specs.Tables.{Laid, CanWrite}
-use Rattle.rule_words.specs.Scans.{opens, closes, close, around}
+use Rattle.work_tables.specs.Tables.{CanWrite}
+use Rattle.rule_words.specs.Scans.{opens, closes, around}
 use Rattle.rule_effects.specs.Conditions.{ends-at}
 use Rattle.step_open.specs.Opened.{Opened, Chain}
 use Rattle.step_open.proofs.Turns.{false-true, opening-closes, around-in}

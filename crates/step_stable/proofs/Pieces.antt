@@ -14,14 +14,14 @@ use Rattle.rule_effects.specs.Conditions.{kind-at}
 use Rattle.rule_kinds.specs.Kinds.{takes-in}
 use Rattle.step_meant.specs.Asked.{Unrest, IsStable, CanAsk}
 use Rattle.step_unrest.specs.Disturbing.{ByShape}
-use Rattle.step_unrest.proofs.Boxed.{and-takes, place-stirs, place-rests}
+use Rattle.step_unrest.proofs.Boxed.{and-takes, takes-and, place-stirs, place-rests}
 use Rattle.step_walk.specs.Calm.{BoxesCalm}
 use Rattle.step_guards.specs.Guards.{GuardsRest}
 use Rattle.step_calm.proofs.Walkable as walkable
 use Rattle.step_calm.proofs.Walkable.{can-walk}
 use Rattle.step_calm.proofs.Resting.{boxes-rest, boxes-stir}
 use Rattle.step_calm.proofs.Guarding.{guards-rest, guards-stir}
-use Rattle.step_stable.specs.Calm.{Calm, OwnPlace, RestTo, PlacesRest}
+use Rattle.step_stable.specs.Calm.{OwnPlace, RestTo, PlacesRest}
 use Rattle.step_stable.proofs.Answers.{calm, loud}
 
 differ : false ≡ true → ⊥
@@ -33,6 +33,10 @@ goal-order {W} {D} {g} c = walkable.goal-order W D g c
 
 pub goal-ends : {W D : List Word} {g : ℕ} → CanAsk W D g → behind W g ≤ length W
 goal-ends {W} {D} {g} c = can-walk W D g c .whole
+
+-- it is no and-box
+pub not-and-box : (W : List Word) (g : ℕ) {b : Bool} → b ≡ kind-at W g And → b ≡ false → takes-in W g ≡ 7 → ⊥
+not-and-box W g e z y = differ (sym z ∙ e ∙ takes-and W g y)
 
 module _ {W D : List Word} {g : ℕ} where
   -- its own place

@@ -47,7 +47,7 @@ pub fn stable(t: &[u8], d: &[u8], w: &mut [u8], g: usize) -> bool
         if step_walk::calm(t, w, g) {
             return step_guards::guards_rest(t, w, g); // guards that must be quiet
         }
-        return false; // an and-box
+        return false; // an and-box is not calm
     }
     false // another place
 }

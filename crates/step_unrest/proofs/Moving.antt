@@ -3,14 +3,13 @@
 use mathlib.Core.Path.{_≡_, refl, ap, ap₂, sym, _∙_, subst}
 use mathlib.Core.Bool.{Bool, true, false, cond, _||_}
 use mathlib.Core.Logic.{_⊎_, inl, inr}
-use mathlib.Core.List.{List, [], _∷_, _++_}
+use mathlib.Core.List.{List, [], _++_}
 use mathlib.Core.Option.{some}
 use Prim.Native.Nat.{ℕ, zero, suc, _+_, _<_, _≤_}
 use native.Mathlib.Omega.{arith}
-use lib.Dec.{T, eqb, eqb→eq}
-use lib.ListN.{length, getD}
+use lib.Dec.{T}
 use borrow.Author.Tests.{eq-eqb}
-use Rattle.akl.specs.Base.{nth, any, range}
+use Rattle.akl.specs.Base.{nth}
 use Rattle.akl.specs.Configuration as akl
 use Rattle.akl.specs.Configuration.{Node, Ctx}
 use Rattle.akl.specs.Places as places
@@ -19,11 +18,11 @@ use Rattle.akl.specs.Table as akl-table
 use Rattle.akl.specs.Table.{Row, row, itself, holder, determinate, rule-row, takes-number, kind-at}
 use Rattle.akl.specs.Stability.{rewritten, disturbs}
 use Rattle.mem_words.specs.declared.Word.{Word}
-use Rattle.mem_words.specs.declared.Word.the-variants.{Place, Bad}
+use Rattle.mem_words.specs.declared.Word.the-variants.{Place}
 use Rattle.mem_sorts.specs.declared.Kind.the-variants.{Wait, Cond, Commit}
 use Rattle.store_words.specs.Contexts.{before, after, kind-of}
 use Rattle.store_words.proofs.Places.{node-opens}
-use Rattle.store_form.specs.State.{State, table, number-in, program-of, config-of}
+use Rattle.store_form.specs.State.{State, table, number-in}
 use Rattle.rule_words.specs.Scans.{close, around}
 use Rattle.rule_words.proofs.Balance.{a-place}
 use Rattle.rule_effects.specs.Effects.{behind}
@@ -43,7 +42,7 @@ use Rattle.step_meant.specs.Asked as asked
 use Rattle.step_meant.specs.Asked.{Applies}
 use Rattle.step_applies.proofs.Laws.{never-applies, always-applies, quiet-applies}
 use Rattle.step_unrest.specs.Disturbing.{Disturbed, MovedAt, NoneQuiet, ByShape}
-use Rattle.step_unrest.proofs.Placing.{place-there, kind-is, no-place-there}
+use Rattle.step_unrest.proofs.Placing.{kind-is, no-place-there}
 use Rattle.step_unrest.proofs.Taken.{says, applied, all-rules, says-or-box, says-choice-box, says-guarded-goal, says-constraint, says-call, says-composition, says-hiding, says-choice, says-inner}
 
 -- ---------------------------------------------------------------------------------------------

@@ -126,11 +126,13 @@ module _ (W D : List Word) (g j k : ℕ) (e : k ≡ takes-in W j) where
     no-and-box b d y o = by-stores b false d y (λ s κ χ n pl m p q.
         sym (ap (λ (l : List Store). not (all (quiet? (locals n) (env χ)) l)) (no-stores pl (λ z. o (e ∙ kind-is W j s pl q ∙ z)))))
 
+    -- where there are no stores the rules decide
+    pub by-rules : (b : Bool) → Disturbed W D g j b → (k ≡ 7 → ⊥) → Unrest W D g j b
+    by-rules true d o = moved true d refl
+    by-rules false d o = no-and-box false d refl o
+
     stores-say : (b r : Bool) → g ≤ j → j < behind W g → Disturbed W D g j b → b ≡ false → k ≡ 7 → QuietIn W g j r → Unrest W D g j (not r)
     stores-say b r a c d y z x = by-stores b (not r) d y (λ s κ χ n pl m p q. ap not (answer W D g j a c s χ n pl r m p q (sym (kind-is W j s pl q) ∙ sym e ∙ z) x))
 
     pub quiet-stores : (b r : Bool) → g ≤ j → j < behind W g → Disturbed W D g j b → b ≡ false → k ≡ 7 → QuietIn W g j r → r ≡ true → Unrest W D g j false
     quiet-stores b r a c d y z x v = subst (λ (u : Bool). Unrest W D g j (not u)) v (stores-say b r a c d y z x)
-
-    pub loud-stores : (b r : Bool) → g ≤ j → j < behind W g → Disturbed W D g j b → b ≡ false → k ≡ 7 → QuietIn W g j r → r ≡ false → Unrest W D g j true
-    loud-stores b r a c d y z x v = subst (λ (u : Bool). Unrest W D g j (not u)) v (stores-say b r a c d y z x)

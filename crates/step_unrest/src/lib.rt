@@ -1,5 +1,5 @@
-// What keeps a goal from being stable, at one place at or inside it: a determinate rule that rewrites the goal or something inside
-// it, or stores that are not quiet.
+// What keeps a goal from being stable, at one place at or inside it that is no and-box: a determinate rule that rewrites the goal or
+// something inside it.
 ghost use mathlib.Core.Path.{_≡_};
 ghost use Prim.Native.Nat.{_<_, _≤_};
 ghost use lib.ListN.{length};
@@ -53,26 +53,17 @@ fn disturbed(t: &[u8], d: &[u8], w: &mut [u8], g: usize, j: usize, k: usize) -> 
     false
 }
 
-// Whether there is unrest at `j`, a position at or inside the goal at `g` of the configuration in `t`, whose program is in `d`. There
-// is none where no place begins.
+// Whether there is unrest at `j`, a position at or inside the goal at `g` of the configuration in `t`, whose program is in `d`, where no
+// and-box begins. There is none where no place begins.
 pub fn unrest_at(t: &[u8], d: &[u8], w: &mut [u8], g: usize, j: usize) -> bool
-    requires { ⌜ Laid (now w) × CanAsk (words (now t)) (words (now d)) g × (g ≤ j) × (j < behind (words (now t)) g) ⌝ }
+    requires { ⌜ Laid (now w) × CanAsk (words (now t)) (words (now d)) g × (g ≤ j) × (j < behind (words (now t)) g) × (takes-in (words (now t)) j ≡ 7 → ⊥) ⌝ }
     ensures { λ b. ⌜ Unrest (words (now (t .entry))) (words (now (d .entry))) g j b × Laid (now (w .exit)) ⌝ }
 {
     let k = rule_kinds::kind(t, j);
     if k == 10 {
         return false; // no place
     }
-    if disturbed(t, d, w, g, j, k) {
-        return true; // a determinate rule
-    }
-    if k == 7 {
-        if rule_solve::quiet_at(t, w, g, j) {
-            return false; // quiet
-        }
-        return true; // not quiet
-    }
-    false
+    disturbed(t, d, w, g, j, k)
 }
 
 // Whether rule 10 applies to the choice-box at `j`, or rule 6 without a question to the solver. What is near is looked at first.

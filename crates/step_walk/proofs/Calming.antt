@@ -1,7 +1,7 @@
 -- The walk behind a word: what was told since the goal's environment is asked to be quiet where an and-box was entered. Assumes nothing.
 use mathlib.Core.Path.{_≡_, sym, _∙_, subst}
 use mathlib.Core.Bool.{Bool, true, false}
-use mathlib.Core.List.{List, _∷_, _++_}
+use mathlib.Core.List.{List, _++_}
 use Prim.Native.Nat.{ℕ, _+_, _≤_, _<_}
 use native.Mathlib.Omega.{arith}
 use native.Mathlib.Decide.{ℕ-discrete}
@@ -16,13 +16,12 @@ use Rattle.work_marks.specs.Marks.{Mark, allTold}
 use Rattle.work_marks.proofs.Verdicts.{lower-satisfiable}
 use Rattle.work_enter.specs.Enters.{At}
 use Rattle.rule_effects.specs.Conditions.{kind-at}
-use Rattle.rule_ranges.specs.Ranges.{ranges-from, told-all, locals-at}
+use Rattle.rule_ranges.specs.Ranges.{locals-at}
 use Rattle.rule_ranges.specs.Asked.{SatIn, QuietIn}
 use Rattle.rule_ranges.proofs.Alike.{alike-same}
 use Rattle.step_open.proofs.Turns.{false-true}
 use Rattle.step_frames.specs.Frames.{same-frames}
 use Rattle.step_quiet.specs.Silence.{CanSilence, Silence}
-use Rattle.step_turn.specs.Boxes.{marks}
 use Rattle.step_turn.specs.Stood.{CanWalk, Stood}
 use Rattle.step_turn.proofs.Stores.{since, marks-since, stores-alike}
 use Rattle.step_turn.proofs.Standing.{stood-sat, stood-still, quiet-alike}

@@ -1,7 +1,8 @@
 -- An and-box, or asked. Assumes nothing.
 use mathlib.Core.Path.{_≡_, _∙_}
 use native.Mathlib.Omega.{arith}
-use Rattle.step_stable.proofs.Pieces.{goal-order, own-and-box, own-asked}
+use Rattle.mem_words.specs.Words.{words}
+use Rattle.step_stable.proofs.Pieces.{goal-order, own-and-box, not-and-box, own-asked}
 use borrow.Author.Needs.{needs}
 use Rattle.step_stable.proofs.goal_stirs.Statement.{statement}
 use Rattle.step_stable.proofs.goal_stirs.Tie as tie
@@ -13,7 +14,7 @@ returns : tie.Need-returns
 returns c = (own-and-box (c .before .is-kind .ensures) (c .if1 .taken), c .before .before .before .before .before .pre .0)
 
 unrest-at-requires : tie.Need-unrest-at-requires
-unrest-at-requires c κs = (c .before .before .before .before .before .before .pre .0, c .before .before .before .before .before .before .pre .1, omega arith, goal-order (c .before .before .before .before .before .before .pre .1))
+unrest-at-requires c κs = (c .before .before .before .before .before .before .pre .0, c .before .before .before .before .before .before .pre .1, omega arith, goal-order (c .before .before .before .before .before .before .pre .1), not-and-box (words (c .before .before .before .before .before .before .args .t .now)) (c .before .before .before .before .before .before .args .g) (c .before .before .is-kind .ensures) (c .before .if1 .left))
 
 same-length : tie.Need-same-length
 same-length c = c .before .before .unrest-at .kept .1 .1 .0

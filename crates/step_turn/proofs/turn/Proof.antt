@@ -40,11 +40,11 @@ same-length c = c .before .before .leave .kept .0
 
 returns : tie.Need-returns
 returns c = record {
-      goes = λ g o h s l. leave-on (words (c .before .before .before .before .before .before .before .before .before .before .before .args .t .now)) g o _ (c .before .before .before .before .before .before .before .before .before .before .before .args .j) _ _ _ _ _ h s l (is-closes (words (c .before .before .before .before .before .before .before .before .before .before .before .args .t .now)) (c .before .before .before .before .before .before .before .before .before .before .before .args .j) (c .before .before .before .before .before .before .before .before .get .result) (c .before .before .before .before .before .before .before .word-shape .result) (c .before .before .before .before .before .before .before .before .get .ensures .is) (c .before .before .before .before .before .before .before .word-shape .ensures) (c .before .before .before .before .before .enum-told3 .given .1)) (omega arith) _ (c .before .before .leave .result) (c .before .before .leave .ensures);
-      locals = moved-locals (c .before .before .leave .ensures .rest);
-      rest = outside-wide 0 466944 (omega arith) (omega arith) (c .before .before .leave .ensures .rest);
-      laid = laid-after (c .before .before .before .before .before .before .before .before .before .before .before .pre .stood .at .walk .laid) (c .before .before .leave .ensures .rest);
-    }
+  goes = λ g o h s l. leave-on (words (c .before .before .before .before .before .before .before .before .before .before .before .args .t .now)) g o _ (c .before .before .before .before .before .before .before .before .before .before .before .args .j) _ _ _ _ _ h s l (is-closes (words (c .before .before .before .before .before .before .before .before .before .before .before .args .t .now)) (c .before .before .before .before .before .before .before .before .before .before .before .args .j) (c .before .before .before .before .before .before .before .before .get .result) (c .before .before .before .before .before .before .before .word-shape .result) (c .before .before .before .before .before .before .before .before .get .ensures .is) (c .before .before .before .before .before .before .before .word-shape .ensures) (c .before .before .before .before .before .enum-told3 .given .1)) (omega arith) _ (c .before .before .leave .result) (c .before .before .leave .ensures);
+  locals = moved-locals (c .before .before .leave .ensures .rest);
+  rest = outside-wide 0 466944 (omega arith) (omega arith) (c .before .before .leave .ensures .rest);
+  laid = laid-after (c .before .before .before .before .before .before .before .before .before .before .before .pre .stood .at .walk .laid) (c .before .before .leave .ensures .rest);
+}
 
 sub-t18 : tie.Need-sub-t18
 sub-t18 c = search needs
