@@ -15,6 +15,7 @@ ghost use Rattle.answer_turn.specs.Turning.{term-in, Shown};
 ghost use Rattle.answer_print.specs.Printing.{CanPrint};
 ghost use Rattle.answer_line.specs.Lined.{CanLine, Bound, whole};
 use answer_turn::Wrote;
+use mem_variables::Variable;
 
 // One binding: the name of node `v`, ` = `, and the term of `x`, with `count` unknowns met before it.
 fn binding(
@@ -22,14 +23,14 @@ fn binding(
     used: usize,
     table: &[u8],
     v: usize,
-    x: usize,
+    x: Variable,
     count: usize,
     out: &mut [u8],
     at: usize,
     write: bool,
 ) -> Wrote
-    requires { ⌜ Laid (now w) × Logged used × Shown (triples (now table)) (logOf used (now w)) (posOf (now w)) (cellsOf (now w)) × CanPrint (numbersOf (now w)) x count (now out) at × (v < length (triples (now table))) ⌝ }
-    ensures { λ t. ⌜ Bound (triples (now (table .entry))) (logOf used (now (w .entry))) (posOf (now (w .entry))) (cellsOf (now (w .entry))) (numbersOf (now (w .entry))) v x count (now (out .entry)) at write (numbersOf (now (w .exit))) (now (out .exit)) (t .count) (t .at) × Answered (now (w .entry)) (now (w .exit)) ⌝ }
+    requires { ⌜ Laid (now w) × Logged used × Shown (triples (now table)) (logOf used (now w)) (posOf (now w)) (cellsOf (now w)) × CanPrint (numbersOf (now w)) (x .0) count (now out) at × (v < length (triples (now table))) ⌝ }
+    ensures { λ t. ⌜ Bound (triples (now (table .entry))) (logOf used (now (w .entry))) (posOf (now (w .entry))) (cellsOf (now (w .entry))) (numbersOf (now (w .entry))) v (x .0) count (now (out .entry)) at write (numbersOf (now (w .exit))) (now (out .exit)) (t .count) (t .at) × Answered (now (w .entry)) (now (w .exit)) ⌝ }
 {
     let a = answer_emit::name(table, v, out, at, write);
     let b = answer_emit::equals(out, a, write);
@@ -55,7 +56,7 @@ fn bindings(
     let mut a = 0;
     loop {
         let v = mem_numbers::triple_get(vars, i);
-        let t = binding(w, used, table, v, i, c, out, a, write);
+        let t = binding(w, used, table, v, Variable(i), c, out, a, write);
         i += 1;
         if i == n {
             return t.at;

@@ -5,6 +5,7 @@ ghost use Rattle.answer_stack.specs.Slots.{numbersOf, Answered};
 ghost use Rattle.answer_turn.specs.Turning.{Shown};
 ghost use Rattle.answer_print.specs.Printing.{CanPrint, Printed};
 use answer_turn::Wrote;
+use mem_variables::Variable;
 
 // The term of `x`, with `count` unknowns met before it. It stops where the text no longer fits: a text may be far longer than
 // the store.
@@ -12,14 +13,14 @@ pub fn term(
     w: &mut [u8],
     used: usize,
     table: &[u8],
-    x: usize,
+    x: Variable,
     count: usize,
     out: &mut [u8],
     at: usize,
     write: bool,
 ) -> Wrote
-    requires { ⌜ Laid (now w) × Logged used × Shown (triples (now table)) (logOf used (now w)) (posOf (now w)) (cellsOf (now w)) × CanPrint (numbersOf (now w)) x count (now out) at ⌝ }
-    ensures { λ t. ⌜ Printed (triples (now (table .entry))) (logOf used (now (w .entry))) (posOf (now (w .entry))) (cellsOf (now (w .entry))) (numbersOf (now (w .entry))) x count (now (out .entry)) at write (numbersOf (now (w .exit))) (now (out .exit)) (t .count) (t .at) × Answered (now (w .entry)) (now (w .exit)) ⌝ }
+    requires { ⌜ Laid (now w) × Logged used × Shown (triples (now table)) (logOf used (now w)) (posOf (now w)) (cellsOf (now w)) × CanPrint (numbersOf (now w)) (x .0) count (now out) at ⌝ }
+    ensures { λ t. ⌜ Printed (triples (now (table .entry))) (logOf used (now (w .entry))) (posOf (now (w .entry))) (cellsOf (now (w .entry))) (numbersOf (now (w .entry))) (x .0) count (now (out .entry)) at write (numbersOf (now (w .exit))) (now (out .exit)) (t .count) (t .at) × Answered (now (w .entry)) (now (w .exit)) ⌝ }
 {
     let mut going = true;
     let mut y = x;

@@ -17,7 +17,7 @@ pub struct Wrote {
 // and where the text so far ends.
 pub struct Turn {
     pub going: bool,
-    pub x: usize,
+    pub x: Variable,
     pub high: usize,
     pub count: usize,
     pub at: usize,
@@ -26,19 +26,19 @@ pub struct Turn {
 // Writes the unbound class `r`.
 pub fn unknown(
     w: &mut [u8],
-    r: usize,
+    r: Variable,
     count: usize,
     out: &mut [u8],
     at: usize,
     write: bool,
 ) -> Wrote
-    requires { ⌜ CanNumber (now w) r count ⌝ }
-    ensures { λ t. ⌜ Named (now (w .entry)) r count (now (out .entry)) at write (now (w .exit)) (now (out .exit)) (t .count) (t .at) ⌝ }
+    requires { ⌜ CanNumber (now w) (r .0) count ⌝ }
+    ensures { λ t. ⌜ Named (now (w .entry)) (r .0) count (now (out .entry)) at write (now (w .exit)) (now (out .exit)) (t .count) (t .at) ⌝ }
 {
-    let e = answer_stack::number_get(w, r);
+    let e = answer_stack::number_get(w, r.0);
     let a = answer_emit::byte(out, at, 95, write);
     if e == 0 {
-        answer_stack::number_put(w, r, count + 1);
+        answer_stack::number_put(w, r.0, count + 1);
         let b = answer_emit::number(out, a, count, write);
         return Wrote {
             at: b,
@@ -54,7 +54,7 @@ fn label(
     w: &mut [u8],
     used: usize,
     table: &[u8],
-    x: usize,
+    x: Variable,
     p: usize,
     high: usize,
     count: usize,
@@ -62,8 +62,8 @@ fn label(
     at: usize,
     write: bool,
 ) -> Turn
-    requires { ⌜ Laid (now w) × Logged used × Shown (triples (now table)) (logOf used (now w)) (posOf (now w)) (cellsOf (now w)) × Ready (triples (now table)) (logOf used (now w)) (posOf (now w)) (cellsOf (now w)) (placesOf (now w)) (begunOf (now w)) (numbersOf (now w)) true x high count × AtBound (posOf (now w)) (cellsOf (now w)) x p ⌝ }
-    ensures { λ t. ⌜ Turned (triples (now (table .entry))) (logOf used (now (w .entry))) (posOf (now (w .entry))) (cellsOf (now (w .entry))) (placesOf (now (w .entry))) (begunOf (now (w .entry))) (numbersOf (now (w .entry))) (now (out .entry)) true x high count at write (placesOf (now (w .exit))) (begunOf (now (w .exit))) (numbersOf (now (w .exit))) (now (out .exit)) (t .going) (t .x) (t .high) (t .count) (t .at) × Answered (now (w .entry)) (now (w .exit)) ⌝ }
+    requires { ⌜ Laid (now w) × Logged used × Shown (triples (now table)) (logOf used (now w)) (posOf (now w)) (cellsOf (now w)) × Ready (triples (now table)) (logOf used (now w)) (posOf (now w)) (cellsOf (now w)) (placesOf (now w)) (begunOf (now w)) (numbersOf (now w)) true (x .0) high count × AtBound (posOf (now w)) (cellsOf (now w)) (x .0) p ⌝ }
+    ensures { λ t. ⌜ Turned (triples (now (table .entry))) (logOf used (now (w .entry))) (posOf (now (w .entry))) (cellsOf (now (w .entry))) (placesOf (now (w .entry))) (begunOf (now (w .entry))) (numbersOf (now (w .entry))) (now (out .entry)) true (x .0) high count at write (placesOf (now (w .exit))) (begunOf (now (w .exit))) (numbersOf (now (w .exit))) (now (out .exit)) (t .going) (t .x .0) (t .high) (t .count) (t .at) × Answered (now (w .entry)) (now (w .exit)) ⌝ }
 {
     let g = solve_fields::num_of(work_tables::peek(w, used, p + 2));
     let a = answer_emit::name(table, g, out, at, write);
@@ -71,7 +71,7 @@ fn label(
     if !solve_fields::is_var(v) {
         return Turn {
             going: false,
-            x: 0,
+            x: Variable(0),
             high,
             count,
             at: a,
@@ -81,7 +81,7 @@ fn label(
     answer_stack::push(w, high, p, 1);
     Turn {
         going: true,
-        x: solve_fields::var_of(v),
+        x: Variable(solve_fields::var_of(v)),
         high: high + 1,
         count,
         at: b,
@@ -93,23 +93,23 @@ pub fn begin(
     w: &mut [u8],
     used: usize,
     table: &[u8],
-    x: usize,
+    x: Variable,
     high: usize,
     count: usize,
     out: &mut [u8],
     at: usize,
     write: bool,
 ) -> Turn
-    requires { ⌜ Laid (now w) × Logged used × Shown (triples (now table)) (logOf used (now w)) (posOf (now w)) (cellsOf (now w)) × Ready (triples (now table)) (logOf used (now w)) (posOf (now w)) (cellsOf (now w)) (placesOf (now w)) (begunOf (now w)) (numbersOf (now w)) true x high count ⌝ }
-    ensures { λ t. ⌜ Turned (triples (now (table .entry))) (logOf used (now (w .entry))) (posOf (now (w .entry))) (cellsOf (now (w .entry))) (placesOf (now (w .entry))) (begunOf (now (w .entry))) (numbersOf (now (w .entry))) (now (out .entry)) true x high count at write (placesOf (now (w .exit))) (begunOf (now (w .exit))) (numbersOf (now (w .exit))) (now (out .exit)) (t .going) (t .x) (t .high) (t .count) (t .at) × Answered (now (w .entry)) (now (w .exit)) ⌝ }
+    requires { ⌜ Laid (now w) × Logged used × Shown (triples (now table)) (logOf used (now w)) (posOf (now w)) (cellsOf (now w)) × Ready (triples (now table)) (logOf used (now w)) (posOf (now w)) (cellsOf (now w)) (placesOf (now w)) (begunOf (now w)) (numbersOf (now w)) true (x .0) high count ⌝ }
+    ensures { λ t. ⌜ Turned (triples (now (table .entry))) (logOf used (now (w .entry))) (posOf (now (w .entry))) (cellsOf (now (w .entry))) (placesOf (now (w .entry))) (begunOf (now (w .entry))) (numbersOf (now (w .entry))) (now (out .entry)) true (x .0) high count at write (placesOf (now (w .exit))) (begunOf (now (w .exit))) (numbersOf (now (w .exit))) (now (out .exit)) (t .going) (t .x .0) (t .high) (t .count) (t .at) × Answered (now (w .entry)) (now (w .exit)) ⌝ }
 {
-    let r = work_cells::find(w, Variable(x));
+    let r = work_cells::find(w, x);
     let c = work_trail::cell_get(w, r.0);
     if c % 4 != 2 {
-        let u = unknown(w, r.0, count, out, at, write);
+        let u = unknown(w, r, count, out, at, write);
         return Turn {
             going: false,
-            x: 0,
+            x: Variable(0),
             high,
             count: u.count,
             at: u.at,
@@ -131,7 +131,7 @@ pub fn behind(
     write: bool,
 ) -> Turn
     requires { ⌜ Laid (now w) × Logged used × Shown (triples (now table)) (logOf used (now w)) (posOf (now w)) (cellsOf (now w)) × Ready (triples (now table)) (logOf used (now w)) (posOf (now w)) (cellsOf (now w)) (placesOf (now w)) (begunOf (now w)) (numbersOf (now w)) false 0 high count × (0 < high) ⌝ }
-    ensures { λ t. ⌜ Turned (triples (now (table .entry))) (logOf used (now (w .entry))) (posOf (now (w .entry))) (cellsOf (now (w .entry))) (placesOf (now (w .entry))) (begunOf (now (w .entry))) (numbersOf (now (w .entry))) (now (out .entry)) false 0 high count at write (placesOf (now (w .exit))) (begunOf (now (w .exit))) (numbersOf (now (w .exit))) (now (out .exit)) (t .going) (t .x) (t .high) (t .count) (t .at) × Answered (now (w .entry)) (now (w .exit)) ⌝ }
+    ensures { λ t. ⌜ Turned (triples (now (table .entry))) (logOf used (now (w .entry))) (posOf (now (w .entry))) (cellsOf (now (w .entry))) (placesOf (now (w .entry))) (begunOf (now (w .entry))) (numbersOf (now (w .entry))) (now (out .entry)) false 0 high count at write (placesOf (now (w .exit))) (begunOf (now (w .exit))) (numbersOf (now (w .exit))) (now (out .exit)) (t .going) (t .x .0) (t .high) (t .count) (t .at) × Answered (now (w .entry)) (now (w .exit)) ⌝ }
 {
     let i = high - 1;
     let p = answer_stack::place_get(w, i);
@@ -141,7 +141,7 @@ pub fn behind(
         let b = answer_emit::byte(out, at, 41, write);
         return Turn {
             going: false,
-            x: 0,
+            x: Variable(0),
             high: i,
             count,
             at: b,
@@ -151,7 +151,7 @@ pub fn behind(
     answer_stack::begun_put(w, i, k + 1);
     Turn {
         going: true,
-        x: solve_fields::var_of(v),
+        x: Variable(solve_fields::var_of(v)),
         high,
         count,
         at: b,

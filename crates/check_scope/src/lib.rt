@@ -11,6 +11,7 @@ ghost use Rattle.check_roles.specs.Steps.{Holding};
 ghost use Rattle.check_scope.specs.Next.{Ready, Next, Opening, bars};
 use check_roles::Role;
 use mem_sorts::Kind;
+use mem_variables::Variable;
 use mem_words::Word;
 
 // What a word comes to: a variable is not in scope, or so many brackets are open behind it.
@@ -20,8 +21,8 @@ pub enum Went {
 }
 
 // The variable `x` is the word at `i`.
-fn variable(ws: &[u8], work: &mut [u8], i: usize, k: usize, x: usize) -> Went
-    requires { ⌜ Ready (words (now ws)) (now work) k i × Read (words (now ws)) i (Word.Free x) ⌝ }
+fn variable(ws: &[u8], work: &mut [u8], i: usize, k: usize, x: Variable) -> Went
+    requires { ⌜ Ready (words (now ws)) (now work) k i × Read (words (now ws)) i (Word.Free (x .0)) ⌝ }
     ensures { λ r. ⌜ Next (words (now (ws .entry))) (now (work .entry)) (now (work .exit)) i r ⌝ }
 {
     if check_uses::allowed(ws, work, k, x) {
@@ -121,7 +122,7 @@ fn step(ws: &[u8], work: &mut [u8], i: usize, k: usize, w: Word) -> Went
 {
     match w {
         Word::End => close(ws, work, i, k),
-        Word::Free(x) => variable(ws, work, i, k, x),
+        Word::Free(x) => variable(ws, work, i, k, Variable(x)),
         Word::Level(_) => Went::On(k),
         Word::Num(_) => Went::On(k),
         Word::Place(p) => open_place(ws, work, i, k, p),

@@ -8,6 +8,7 @@ ghost use Rattle.check_vartables.specs.Stacks.{tops};
 ghost use Rattle.check_roles.specs.Steps.{aimed, excuses, top-naming};
 ghost use Rattle.check_uses.specs.Uses.{Look, may-use};
 use check_roles::Role;
+use mem_variables::Variable;
 
 // One more than the position of the guarded goal that the innermost of `k` open brackets belongs to; 0 if there is none.
 pub fn aim(ws: &[u8], work: &[u8], k: usize) -> usize
@@ -57,14 +58,14 @@ fn naming(ws: &[u8], work: &[u8], k: usize) -> bool
 }
 
 // Whether the variable `x` may stand in the innermost of `k` open brackets.
-pub fn allowed(ws: &[u8], work: &[u8], k: usize, x: usize) -> bool
-    requires { ⌜ Look (words (now ws)) (now work) k × (x < 65536) ⌝ }
-    ensures { λ r. ⌜ r ≡ may-use (words (now (ws .entry))) (now (work .entry)) k x ⌝ }
+pub fn allowed(ws: &[u8], work: &[u8], k: usize, x: Variable) -> bool
+    requires { ⌜ Look (words (now ws)) (now work) k × (x .0 < 65536) ⌝ }
+    ensures { λ r. ⌜ r ≡ may-use (words (now (ws .entry))) (now (work .entry)) k (x .0) ⌝ }
 {
     if naming(ws, work, k) {
         return true;
     }
-    let v = check_vartables::name_get(work, x);
+    let v = check_vartables::name_get(work, x.0);
     if v % 2 == 1 {
         return true;
     }

@@ -10,19 +10,20 @@ ghost use Rattle.rule_build.specs.Built.{Appended};
 ghost use Rattle.rule_build.specs.Cuts.{Least};
 ghost use Rattle.rule_effects.specs.Effects.{frees};
 ghost use Rattle.rule_fresh.specs.Room.{Fits};
+use mem_variables::Variable;
 use mem_words::Word;
 
 // A word opened with `n` variables from `next` on.
-fn fresh_word(w: Word, next: usize, n: usize) -> Word
-    requires { ⌜ (next + n ≤ 65536) × Small w ⌝ }
-    ensures { λ r. ⌜ Opened (frees next n) w r ⌝ }
+fn fresh_word(w: Word, next: Variable, n: usize) -> Word
+    requires { ⌜ (next .0 + n ≤ 65536) × Small w ⌝ }
+    ensures { λ r. ⌜ Opened (frees (next .0) n) w r ⌝ }
 {
     match w {
         Word::End => Word::End,
         Word::Free(x) => Word::Free(x),
         Word::Level(l) => {
             if l < n {
-                Word::Free(next + l)
+                Word::Free(next.0 + l)
             } else {
                 Word::Level(l - n)
             }
@@ -35,9 +36,9 @@ fn fresh_word(w: Word, next: usize, n: usize) -> Word
 }
 
 // Writes the `m` words of `ws` from `s` on, opened.
-fn copy_fresh(ws: &[u8], s: usize, m: usize, next: usize, n: usize, out: &mut [u8], at: usize)
-    requires { ⌜ Fits (words (now ws)) s m next n (words (now out)) at ⌝ }
-    ensures { λ _. ⌜ Copied (words (now (out .entry))) at (map (openWord (frees next n)) (drop s (words (now (ws .entry))))) m (words (now (out .exit))) ⌝ }
+fn copy_fresh(ws: &[u8], s: usize, m: usize, next: Variable, n: usize, out: &mut [u8], at: usize)
+    requires { ⌜ Fits (words (now ws)) s m (next .0) n (words (now out)) at ⌝ }
+    ensures { λ _. ⌜ Copied (words (now (out .entry))) at (map (openWord (frees (next .0) n)) (drop s (words (now (ws .entry))))) m (words (now (out .exit))) ⌝ }
 {
     let mut j = 0;
     while j < m {
@@ -59,13 +60,13 @@ pub fn append_fresh(
     ws: &[u8],
     a: usize,
     b: usize,
-    next: usize,
+    next: Variable,
     n: usize,
     out: &mut [u8],
     at: usize,
 ) -> usize
-    requires { ⌜ next + n ≤ 65536 ⌝ }
-    ensures { λ r. ⌜ Appended (words (now (out .entry))) at (map (openWord (frees next n)) (cut a b (words (now (ws .entry))))) r (words (now (out .exit))) ⌝ }
+    requires { ⌜ next .0 + n ≤ 65536 ⌝ }
+    ensures { λ r. ⌜ Appended (words (now (out .entry))) at (map (openWord (frees (next .0) n)) (cut a b (words (now (ws .entry))))) r (words (now (out .exit))) ⌝ }
 {
     let e = least(b, mem_words::count(ws));
     let s = least(a, e);

@@ -4,6 +4,7 @@ ghost use lib.ListN.{length};
 ghost use Rattle.mem_words.specs.Words.{words};
 ghost use Rattle.rule_build.specs.Built.{Built};
 ghost use Rattle.rule_effects.specs.Effects.{revealed, fresh-4, effect-4};
+use mem_variables::Variable;
 
 // The locals of the and-box close at `u`, the statement of the member at `i` ends at `s` and hides `n` variables.
 fn reveal_at(
@@ -20,9 +21,9 @@ fn reveal_at(
 {
     let c = mem_words::count(ws);
     let k1 = rule_build::append_range(ws, 0, u, out, 0);
-    let k2 = rule_frees::append_frees(next, n, out, k1);
+    let k2 = rule_frees::append_frees(Variable(next), n, out, k1);
     let k3 = rule_build::append_range(ws, u, i + 1, out, k2);
-    let k4 = rule_fresh::append_fresh(ws, i + 3, s, next, n, out, k3);
+    let k4 = rule_fresh::append_fresh(ws, i + 3, s, Variable(next), n, out, k3);
     rule_build::append_range(ws, s + 1, c, out, k4)
 }
 

@@ -1,11 +1,13 @@
 -- The numbers of hidden variables in a state that has bytes fit two bytes, so that no hidden list is longer than a text can have, and
 -- refusal 9 says of the program, the names and the statements that texts read as them. Assumes nothing.
-use mathlib.Core.Path.{_≡_, subst}
+use mathlib.Core.Path.{_≡_, refl, sym, ap, _∙_}
+use mathlib.Core.Logic.{_↔_}
 use mathlib.Core.List.{List, [], _∷_, _++_}
-use mathlib.Core.Option.{some}
+use mathlib.Core.Option.{Option, some, none}
 use Prim.Native.Nat.{ℕ, _≤_, _<_}
 use native.Mathlib.Omega.{arith}
 use lib.Dec.{T}
+use lib.ListN.{take}
 use Rattle.constraint.specs.Constraint.{Con, ctrue, cfail, ceq, capp}
 use Rattle.akl.specs.Base.{Name}
 use Rattle.akl.specs.Syntax.{Var, Stmt, atom, call, comp, hide, choice, Clauses, no-more, clause, Program}
@@ -16,11 +18,13 @@ use Rattle.layout.specs.Layout.{vars-words, con-words, stmt-words, clauses-word
 use Rattle.texts.specs.Draft.{most-hidden, ListsFit, ClauseListsFit, ProgramListsFit}
 use Rattle.texts.specs.StoreFormed.{StoreFormed}
 use Rattle.texts.proofs.StoreTexts.{store-formed-iff}
-use Rattle.store_form.specs.State.{State, table, number-in, program-of, names-of, config-of}
+use Rattle.store_form.specs.Sizes.{store-length}
+use Rattle.store_form.specs.State.{State, table, number-in, program-of, names-of, config-of, well-formed-state}
 use Rattle.store_form.specs.Form.{rules-words}
+use Rattle.store_form.specs.Holding.{Fits, Holds}
 use Rattle.store_form.proofs.Spelt.{small-all}
 use Rattle.store_calls.specs.Outcomes.{held}
-use Rattle.store_calls.proofs.Any.{held-stands}
+use Rattle.store_calls.proofs.Any.{held-iff}
 
 vars-on : (xs : List Var) (r : List Word) → AllSmall (vars-words xs r) → AllSmall r
 unfolding vars-words
@@ -63,9 +67,28 @@ unfolding program-words
 program-lists num [] h = tt
 program-lists num (d ∷ ds) h = let x = stmt-lists (d .body) num (program-words num ds) (h .1 .1) in (x .0, program-lists num ds (x .1))
 
+-- A state that has bytes is well formed exactly when it is formed as document 01 says it of texts.
+formed-texts : (limit : ℕ) → limit ≤ 65536 → (s : State) → Fits limit s → T (well-formed-state limit s) ↔ StoreFormed limit (program-of s) (names-of s) (config-of s)
+unfolding rules-words
+formed-texts limit low s f =
+    store-formed-iff limit (program-of s) (names-of s) (config-of s) (omega (arith, low)) (program-lists (number-in (table s)) (s .program) (small-all (rules-words s) (f .rules-small)))
+
+-- What a slice holds: the state whose bytes the store's are, if it is formed as document 01 says it of texts.
+pub held-iff-formed : (limit : ℕ) → limit ≤ 65536 → (b : List ℕ) (s : State) → (held limit b ≡ some s) ↔ (Holds limit (take (store-length limit) b) s × StoreFormed limit (program-of s) (names-of s) (config-of s))
+held-iff-formed limit low b s =
+    (λ e. let h = held-iff limit low b s .0 e in (h .0, formed-texts limit low s (h .0 .fits) .0 (h .1)), λ h. held-iff limit low b s .1 (h .0, formed-texts limit low s (h .0 .fits) .1 (h .1)))
+
 -- What bytes hold is formed, as document 01 says it of texts.
 pub held-formed : (limit : ℕ) → limit ≤ 65536 → (b : List ℕ) (s : State) → held limit b ≡ some s → StoreFormed limit (program-of s) (names-of s) (config-of s)
-unfolding rules-words
-held-formed limit low b s e =
-    let S = held-stands limit low b s e in
-    store-formed-iff limit (program-of s) (names-of s) (config-of s) (omega (arith, low)) (program-lists (number-in (table s)) (s .program) (small-all (rules-words s) (S .fits .rules-small))) .0 (S .formed)
+held-formed limit low b s e = held-iff-formed limit low b s .0 e .1
+
+-- Refusal 9: the store's bytes are those of no state that is formed.
+pub none-held-iff : (limit : ℕ) → limit ≤ 65536 → (b : List ℕ) → (held limit b ≡ none) ↔ ((s : State) → Holds limit (take (store-length limit) b) s → StoreFormed limit (program-of s) (names-of s) (config-of s) → ⊥)
+none-held-iff limit low b = (λ e s h f. none-some (sym e ∙ held-iff-formed limit low b s .1 (h, f)), λ no-state. go no-state (held limit b) refl)
+  where
+    none-some : {s : State} → _≡_ {A = Option State} none (some s) → ⊥
+    none-some e = let z : _≡_ {A = ℕ} 0 1 = ap (λ (o : Option State). elim o as (λ v. ℕ) [ none ↦ 0 | some x ↦ 1 ]) e in omega arith
+
+    go : ((s : State) → Holds limit (take (store-length limit) b) s → StoreFormed limit (program-of s) (names-of s) (config-of s) → ⊥) → (o : Option State) → held limit b ≡ o → o ≡ none
+    go n none e = refl
+    go n (some s) e = let h = held-iff-formed limit low b s .0 e in absurd (n s (h .0) (h .1))

@@ -48,8 +48,8 @@ push-requires c κs = record { laid = c .before .before .before .before .before 
 var-of-requires : tie.Need-var-of-requires
 var-of-requires c κs = search needs
 
-add-t30 : tie.Need-add-t30
-add-t30 c = omega (arith, room-for (c .before .before .before .before .before .before .before .before .before .before .before .before .before .before .before .before .before .before .before .before .before .before .before .pre .2) (c .before .before .before .before .before .before .before .before .before .before .before .before .before .before .before .before .before .before .before .before .before .before .before .pre .3) (c .before .before .before .before .before .before .before .before .before .before .before .before .before .before .before .before .before .before .before .before .before .before .before .pre .4), length-pos (c .before .before .before .before .before .before .before .before .before .before .before .before .before .before .before .before .before .before .before .before .before .before .before .pre .0))
+add-t32 : tie.Need-add-t32
+add-t32 c = omega (arith, room-for (c .before .before .before .before .before .before .before .before .before .before .before .before .before .before .before .before .before .before .before .before .before .before .before .pre .2) (c .before .before .before .before .before .before .before .before .before .before .before .before .before .before .before .before .before .before .before .before .before .before .before .pre .3) (c .before .before .before .before .before .before .before .before .before .before .before .before .before .before .before .before .before .before .before .before .before .before .before .pre .4), length-pos (c .before .before .before .before .before .before .before .before .before .before .before .before .before .before .before .before .before .before .before .before .before .before .before .pre .0))
 
 same-length-3 : tie.Need-same-length-3
 same-length-3 c = c .before .before .before .push .kept .0
@@ -61,4 +61,4 @@ returns-2 : tie.Need-returns-2
 returns-2 c = (did-open (c .before .before .before .before .before .before .before .before .before .before .before .before .before .before .before .before .before .before .before .before .before .before .before .pre .2) (c .before .before .before .before .before .before .before .before .before .before .is-var .result) (c .before .before .before .before .before .before .before .before .before .before .before .before .before .before .before .before .before .before .before .before .before .before .before .pre .4) (c .before .before .before .before .before .before .before .before .before .before .before .before .before .before .before .before .before .before .peek .ensures) (c .before .before .before .before .before .before .before .before .before .before .before .before .before .before .before .before .before .num-of .ensures) (c .before .before .before .before .before .before .before .before .before .before .before .peek2 .ensures) (c .before .before .before .before .before .before .before .before .before .before .is-var .ensures) (not-false (c .before .before .before .before .before .before .before .before .before .before .is-var .result) (c .before .before .before .before .before .before .before .before .before .if1 .left)) (c .var-of .ensures) (c .before .before .before .before .before .before .before .before .before .before .before .before .before .before .before .name .ensures) (c .before .before .before .before .before .before .before .byte .ensures) (c .before .before .before .push .ensures .place) (c .before .before .before .push .ensures .begun) (c .before .before .before .push .ensures .number) (omega (arith, room-for (c .before .before .before .before .before .before .before .before .before .before .before .before .before .before .before .before .before .before .before .before .before .before .before .pre .2) (c .before .before .before .before .before .before .before .before .before .before .before .before .before .before .before .before .before .before .before .before .before .before .before .pre .3) (c .before .before .before .before .before .before .before .before .before .before .before .before .before .before .before .before .before .before .before .before .before .before .before .pre .4), length-pos (c .before .before .before .before .before .before .before .before .before .before .before .before .before .before .before .before .before .before .before .before .before .before .before .pre .0), length-places (c .before .before .before .before .before .before .before .before .before .before .before .before .before .before .before .before .before .before .before .before .before .before .before .pre .0))) (omega (arith, room-for (c .before .before .before .before .before .before .before .before .before .before .before .before .before .before .before .before .before .before .before .before .before .before .before .pre .2) (c .before .before .before .before .before .before .before .before .before .before .before .before .before .before .before .before .before .before .before .before .before .before .before .pre .3) (c .before .before .before .before .before .before .before .before .before .before .before .before .before .before .before .before .before .before .before .before .before .before .before .pre .4), length-pos (c .before .before .before .before .before .before .before .before .before .before .before .before .before .before .before .before .before .before .before .before .before .before .before .pre .0), length-begun (c .before .before .before .before .before .before .before .before .before .before .before .before .before .before .before .before .before .before .before .before .before .before .before .pre .0))), c .before .before .before .push .ensures .rest)
 
 pub label-spec : {M : Type 1} → statement M
-label-spec = tie.close (tie.spec add-peek peek-requires num-of-requires name-requires add-peek-2 peek-requires-2 is-var-requires same-length same-length-2 returns byte-requires push-requires var-of-requires add-t30 same-length-3 same-length-4 returns-2)
+label-spec = tie.close (tie.spec add-peek peek-requires num-of-requires name-requires add-peek-2 peek-requires-2 is-var-requires same-length same-length-2 returns byte-requires push-requires var-of-requires add-t32 same-length-3 same-length-4 returns-2)

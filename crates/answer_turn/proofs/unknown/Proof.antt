@@ -14,16 +14,16 @@ byte-requires : tie.Need-byte-requires
 byte-requires c κs = search needs
 
 add-number-put : tie.Need-add-number-put
-add-number-put c = omega (arith, number-less (c .before .before .before .before .before .before .before .before .before .before .args .r) (c .before .before .before .before .before .before .before .before .before .before .pre .numbers) (sym (c .before .before .before .before .before .before .number-get .ensures .is) ∙ c .before .if1 .taken) (c .before .before .before .before .before .before .before .before .before .before .pre .low))
+add-number-put c = omega (arith, number-less (c .before .before .before .before .before .before .before .before .before .before .args .r .0) (c .before .before .before .before .before .before .before .before .before .before .pre .numbers) (sym (c .before .before .before .before .before .before .number-get .ensures .is) ∙ c .before .if1 .taken) (c .before .before .before .before .before .before .before .before .before .before .pre .low))
 
 number-put-requires : tie.Need-number-put-requires
-number-put-requires c κs = record { laid = c .before .before .before .before .before .before .before .before .before .before .pre .laid; inside = omega (arith, c .before .before .before .before .before .before .before .before .before .before .pre .low); small = omega (arith, number-less (c .before .before .before .before .before .before .before .before .before .before .args .r) (c .before .before .before .before .before .before .before .before .before .before .pre .numbers) (sym (c .before .before .before .before .before .before .number-get .ensures .is) ∙ c .before .if1 .taken) (c .before .before .before .before .before .before .before .before .before .before .pre .low)) }
+number-put-requires c κs = record { laid = c .before .before .before .before .before .before .before .before .before .before .pre .laid; inside = omega (arith, c .before .before .before .before .before .before .before .before .before .before .pre .low); small = omega (arith, number-less (c .before .before .before .before .before .before .before .before .before .before .args .r .0) (c .before .before .before .before .before .before .before .before .before .before .pre .numbers) (sym (c .before .before .before .before .before .before .number-get .ensures .is) ∙ c .before .if1 .taken) (c .before .before .before .before .before .before .before .before .before .before .pre .low)) }
 
 number-requires : tie.Need-number-requires
 number-requires c κs = search needs
 
 add-t19 : tie.Need-add-t19
-add-t19 c = omega (arith, number-less (c .before .before .before .before .before .before .before .before .before .before .before .before .before .before .before .before .before .args .r) (c .before .before .before .before .before .before .before .before .before .before .before .before .before .before .before .before .before .pre .numbers) (sym (c .before .before .before .before .before .before .before .before .before .before .before .before .before .number-get .ensures .is) ∙ c .before .before .before .before .before .before .before .before .if1 .taken) (c .before .before .before .before .before .before .before .before .before .before .before .before .before .before .before .before .before .pre .low))
+add-t19 c = omega (arith, number-less (c .before .before .before .before .before .before .before .before .before .before .before .before .before .before .before .before .before .args .r .0) (c .before .before .before .before .before .before .before .before .before .before .before .before .before .before .before .before .before .pre .numbers) (sym (c .before .before .before .before .before .before .before .before .before .before .before .before .before .number-get .ensures .is) ∙ c .before .before .before .before .before .before .before .before .if1 .taken) (c .before .before .before .before .before .before .before .before .before .before .before .before .before .before .before .before .before .pre .low))
 
 same-length : tie.Need-same-length
 same-length c = c .before .before .before .before .before .before .number-put .kept .0

@@ -13,7 +13,7 @@ use Rattle.rule_frees.proofs.put_frees.Statement.{statement}
 use Rattle.rule_frees.proofs.put_frees.Tie as tie
 
 abbrev Inv-loop : tie.InvT-loop
-Inv-loop next n out₀ at j₀ out j = (j ≤ n) × (length out ≡ length out₀) × (length (words out) ≡ length (words out₀)) × (words out ≡ copied (words out₀) at (frees next n) j)
+Inv-loop next n out₀ at j₀ out j = (j ≤ n) × (length out ≡ length out₀) × (length (words out) ≡ length (words out₀)) × (words out ≡ copied (words out₀) at (frees (next .0) n) j)
 
 abbrev μ-loop : tie.MeasureT-loop
 μ-loop next n out₀ at j₀ out j = n - j
@@ -28,7 +28,7 @@ add-t11 : tie.Need-add-t11 Inv-loop μ-loop
 add-t11 c = search needs
 
 put-requires : tie.Need-put-requires Inv-loop μ-loop
-put-requires c κs = record { inside = omega (arith, c .before .before .before .before .pre .0, c .before .before .loop .inv .2); small = record { value = omega (arith, c .before .before .before .before .pre .1) } }
+put-requires c κs = record { inside = omega (arith, c .before .before .before .before .before .pre .0, c .before .before .before .loop .inv .2); small = record { value = omega (arith, c .before .before .before .before .before .pre .1) } }
 
 add-j : tie.Need-add-j Inv-loop μ-loop
 add-j c = search needs
@@ -38,12 +38,12 @@ loop-less c = search needs
 
 loop-again : tie.Need-loop-again Inv-loop μ-loop
 loop-again c =
-    let lp = c .before .before .before .before .before .loop in
-    let a = c .before .before .before .before .before .before .before .args in (
+    let lp = c .before .before .before .before .before .before .loop in
+    let a = c .before .before .before .before .before .before .before .before .args in (
       omega arith,
       c .before .before .put .kept .0 ∙ lp .inv .1,
       c .before .before .put .ensures .long ∙ lp .inv .2,
-      copied-more (words (a .out .now)) (a .at) (frees (a .next) (a .n)) _ _ (lp .j) _ Bad (lp .inv .3) (getD-frees (a .next) (a .n) (lp .j) (omega arith)) (omega (arith, c .before .before .before .before .before .before .before .pre .0)) (omega (arith, length-frees (a .next) (a .n))) (c .before .before .put .ensures),
+      copied-more (words (a .out .now)) (a .at) (frees (a .next .0) (a .n)) _ _ (lp .j) _ Bad (lp .inv .3) (getD-frees (a .next .0) (a .n) (lp .j) (omega arith)) (omega (arith, c .before .before .before .before .before .before .before .before .pre .0)) (omega (arith, length-frees (a .next .0) (a .n))) (c .before .before .put .ensures),
     )
 
 same-length : tie.Need-same-length Inv-loop μ-loop
@@ -54,7 +54,7 @@ returns c =
     let lp = c .before .loop in
     let a = c .before .before .before .args in
     let e : lp .j ≡ a .n = omega arith in
-    record { list = lp .inv .3 ∙ ap (copied (words (a .out .now)) (a .at) (frees (a .next) (a .n))) e; long = lp .inv .2 }
+    record { list = lp .inv .3 ∙ ap (copied (words (a .out .now)) (a .at) (frees (a .next .0) (a .n))) e; long = lp .inv .2 }
 
 pub put-frees-spec : {M : Type 1} → statement M
 put-frees-spec = tie.close (tie.spec Inv-loop μ-loop loop-holds add-put add-t11 put-requires add-j loop-less loop-again same-length returns)

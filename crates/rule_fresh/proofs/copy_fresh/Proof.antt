@@ -15,7 +15,7 @@ use Rattle.rule_fresh.proofs.copy_fresh.Statement.{statement}
 use Rattle.rule_fresh.proofs.copy_fresh.Tie as tie
 
 abbrev Inv-loop : tie.InvT-loop
-Inv-loop ws s m next n out₀ at j₀ out j = (j ≤ m) × (length out ≡ length out₀) × (length (words out) ≡ length (words out₀)) × (words out ≡ copied (words out₀) at (map (openWord (frees next n)) (drop s (words ws))) j)
+Inv-loop ws s m next n out₀ at j₀ out j = (j ≤ m) × (length out ≡ length out₀) × (length (words out) ≡ length (words out₀)) × (words out ≡ copied (words out₀) at (map (openWord (frees (next .0) n)) (drop s (words ws))) j)
 
 abbrev μ-loop : tie.MeasureT-loop
 μ-loop ws s m next n out₀ at j₀ out j = m - j
@@ -48,7 +48,7 @@ loop-again : tie.Need-loop-again Inv-loop μ-loop
 loop-again c =
     let lp = c .before .before .before .before .before .before .before .loop in
     let a = c .before .before .before .before .before .before .before .before .before .before .args in
-    let f = openWord (frees (a .next) (a .n)) in
+    let f = openWord (frees (a .next .0) (a .n)) in
     let W = words (a .ws .now) in
     let h : lp .j < length (drop (a .s) W) = simp length-drop (omega (arith, c .before .before .before .before .before .before .before .before .before .before .pre .source)) in (
       omega arith,
@@ -65,7 +65,7 @@ returns c =
     let lp = c .before .loop in
     let a = c .before .before .before .before .args in
     let e : lp .j ≡ a .m = omega arith in
-    record { list = lp .inv .3 ∙ ap (copied (words (a .out .now)) (a .at) (map (openWord (frees (a .next) (a .n))) (drop (a .s) (words (a .ws .now))))) e; long = lp .inv .2 }
+    record { list = lp .inv .3 ∙ ap (copied (words (a .out .now)) (a .at) (map (openWord (frees (a .next .0) (a .n))) (drop (a .s) (words (a .ws .now))))) e; long = lp .inv .2 }
 
 pub copy-fresh-spec : {M : Type 1} → statement M
 copy-fresh-spec = tie.close (tie.spec Inv-loop μ-loop loop-holds add-get get-requires fresh-word-requires add-put put-requires add-j loop-less loop-again same-length returns)
