@@ -1,10 +1,17 @@
 // What words say of boxes, locals and variables.
 ghost use mathlib.Core.Path.{_≡_};
-ghost use Rattle.mem_words.specs.Words.{Small};
-ghost use Rattle.check_words.specs.Frees.{free-no, is-and, is-locals};
+ghost use Rattle.check_words.specs.Frees.{is-and, is-locals};
+ghost use Rattle.check_kinds.specs.Seen.{seen};
 use mem_sorts::Kind;
 use mem_sorts::Sort;
+use mem_variables::Variable;
 use mem_words::Word;
+
+// The variable that a word is, if it is one.
+pub enum Seen {
+    Nothing,
+    One(Variable),
+}
 
 // Whether the kind is an and-box's.
 pub fn boxes(k: Kind) -> bool
@@ -42,18 +49,17 @@ pub fn lists(s: Sort) -> bool
     }
 }
 
-// A variable's number and one more; 0 for a word that is no variable.
-pub fn variable(w: Word) -> usize
-    requires { ⌜ Small w ⌝ }
-    ensures { λ r. ⌜ r ≡ free-no w ⌝ }
+// The variable that the word is, if it is one.
+pub fn variable(w: Word) -> Seen
+    ensures { λ r. ⌜ r ≡ seen w ⌝ }
 {
     match w {
-        Word::End => 0,
-        Word::Free(x) => x + 1,
-        Word::Level(_) => 0,
-        Word::Num(_) => 0,
-        Word::Place(_) => 0,
-        Word::Inner(_) => 0,
-        Word::Bad => 0,
+        Word::End => Seen::Nothing,
+        Word::Free(x) => Seen::One(Variable(x)),
+        Word::Level(_) => Seen::Nothing,
+        Word::Num(_) => Seen::Nothing,
+        Word::Place(_) => Seen::Nothing,
+        Word::Inner(_) => Seen::Nothing,
+        Word::Bad => Seen::Nothing,
     }
 }

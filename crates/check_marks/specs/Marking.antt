@@ -12,23 +12,12 @@ use Rattle.akl.specs.Base.{if}
 use Rattle.mem_numbers.specs.Stored.{Stored, stored-same, stored-other}
 use Rattle.mem_parts.specs.Parts.{outside-then}
 use Rattle.mem_words.specs.declared.Word.{Word}
-use Rattle.mem_words.specs.declared.Word.the-variants.{End, Free, Level, Num, Place, Inner, Bad}
-use Rattle.mem_words.specs.Words.{Read, Small}
 use Rattle.work_tables.specs.Tables.{Laid}
-use Rattle.check_words.specs.Frees.{frees, free-no}
-use Rattle.check_words.specs.Passes.{frees-none, frees-one, frees-past}
+use Rattle.check_words.specs.Frees.{frees}
+use Rattle.check_words.specs.Passes.{frees-past}
 use Rattle.check_vartables.specs.Tables.{namesOf, stackOf, linksOf, Checked, PutName, length-names}
 use Rattle.check_roles.specs.Boxes.{newer}
 use Rattle.check_roles.specs.Marks.{upd, is-marked, all-new, mark-all, unmark-all}
-
-pub free-small : (w : Word) → Small w → free-no w ≤ 65536
-free-small End s = omega arith
-free-small (Free x) s = let q = s .value in omega (arith, q)
-free-small (Level l) s = omega arith
-free-small (Num n) s = omega arith
-free-small (Place k) s = omega arith
-free-small (Inner t) s = omega arith
-free-small Bad s = omega arith
 
 -- nothing but the numbers of variables changed
 pub record Named (L X : List ℕ) : Type 0 where
@@ -78,50 +67,44 @@ pub record Did (C : List Word) (L : List ℕ) (at l i : ℕ) (X : List ℕ) (r :
 pub mark-first : (C : List Word) (L : List ℕ) (at l i : ℕ) → Marking C L at l i L at
 mark-first C L at l i = record { far = numbers L; are = λ y. refl; new = refl; all = refl }
 
-marking-done : {C : List Word} {L X : List ℕ} {at l i j : ℕ} → frees (drop j C) ≡ [] → Marking C L at l i X j → Named L X → Did C L at l i X true
+pub mark-end : {C : List Word} {L X : List ℕ} {at l i j : ℕ} → frees (drop j C) ≡ [] → Marking C L at l i X j → Named L X → Did C L at l i X true
 unfolding all-new mark-all
-marking-done {C} {L} {X} {at} {l} {i} {j} e m n = record {
+mark-end {C} {L} {X} {at} {l} {i} {j} e m n = record {
   new = sym (m .new ∙ ap (λ (vs : List ℕ). all-new vs l i (m .far)) e);
   marked = λ t y. m .are y ∙ sym (ap (λ (f : ℕ → ℕ). f y) (m .all ∙ ap (λ (vs : List ℕ). mark-all vs l i (m .far)) e));
   named = n;
 }
 
-pub mark-end : {C : List Word} {L X : List ℕ} {at l i j v : ℕ} {w : Word} → j < length C → Read C j w → v ≡ free-no w → v ≡ 0 → Marking C L at l i X j → Named L X → Did C L at l i X true
-mark-end {C} {L} {X} {at} {l} {i} {j} {v} {w} h e f z m n = marking-done (frees-none C j w v h e f z) m n
-
 pub mark-past : {C : List Word} {L X : List ℕ} {at l i j : ℕ} → length C ≤ j → Marking C L at l i X j → Named L X → Did C L at l i X true
-mark-past {C} {L} {X} {at} {l} {i} {j} h m n = marking-done (frees-past C j h) m n
+mark-past {C} {L} {X} {at} {l} {i} {j} h m n = mark-end (frees-past C j h) m n
 
 true-false : true ≡ false → ⊥
 true-false e = let z : _≡_ {A = ℕ} 0 1 = cc in omega arith
 
-pub mark-old : {C : List Word} {L X : List ℕ} {at l i j v : ℕ} {w : Word} (u : ℕ) → j < length C → Read C j w → v ≡ free-no w → (v ≡ 0 → ⊥) → u ≡ numbers X (v - 1) → u % 2 ≡ 1 → Marking C L at l i X j → Named L X → Did C L at l i X false
+pub mark-old : {C : List Word} {L X : List ℕ} {at l i j x : ℕ} (u : ℕ) → frees (drop j C) ≡ x ∷ frees (drop (j + 1) C) → u ≡ numbers X x → u % 2 ≡ 1 → Marking C L at l i X j → Named L X → Did C L at l i X false
 unfolding all-new
-mark-old {C} {L} {X} {at} {l} {i} {j} {v} {w} u h e f z q o m n = record {
+mark-old {C} {L} {X} {at} {l} {i} {j} {x} u e q o m n = record {
   new =
       sym
       (m .new
-      ∙ ap (λ (vs : List ℕ). all-new vs l i (m .far)) (frees-one C j w v h e f z)
-      ∙ ap (λ (b : Bool). not b && all-new (frees (drop (j + 1) C)) l i (upd (m .far) (v - 1) (2 * newer l i (m .far (v - 1) / 2) + 1))) (ap is-marked (sym (q ∙ m .are (v - 1))) ∙ eq-eqb (u % 2) 1 o));
+      ∙ ap (λ (vs : List ℕ). all-new vs l i (m .far)) e
+      ∙ ap (λ (b : Bool). not b && all-new (frees (drop (j + 1) C)) l i (upd (m .far) x (2 * newer l i (m .far x / 2) + 1))) (ap is-marked (sym (q ∙ m .are x)) ∙ eq-eqb (u % 2) 1 o));
   marked = λ t. absurd (true-false (sym t));
   named = n;
 }
 
-pub mark-on : {C : List Word} {L X Y : List ℕ} {at l i j v : ℕ} {w : Word} (u k : ℕ) → Laid X → j < length C → Read C j w → v ≡ free-no w → (v ≡ 0 → ⊥) → u ≡ numbers X (v - 1) → (u % 2 ≡ 1 → ⊥) → k ≡ newer l i (u / 2) → PutName X (v - 1) (2 * k + 1) Y → Marking C L at l i X j → Marking C L at l i Y (j + 1)
+pub mark-on : {C : List Word} {L X Y : List ℕ} {at l i j x : ℕ} (u k : ℕ) → Laid X → frees (drop j C) ≡ x ∷ frees (drop (j + 1) C) → x < 65536 → u ≡ numbers X x → (u % 2 ≡ 1 → ⊥) → k ≡ newer l i (u / 2) → PutName X x (2 * k + 1) Y → Marking C L at l i X j → Marking C L at l i Y (j + 1)
 unfolding all-new mark-all
-mark-on {C} {L} {X} {Y} {at} {l} {i} {j} {v} {w} u k a h e f z q o g p m =
-    let s = e .small in
-    let b = free-small w s in
-    let c : v - 1 < 65536 = omega (arith, b, f, z) in
-    let d : 2 * k + 1 ≡ 2 * newer l i (m .far (v - 1) / 2) + 1 = ap (λ (t : ℕ). 2 * t + 1) (g ∙ ap (λ (t : ℕ). newer l i (t / 2)) (q ∙ m .are (v - 1))) in
+mark-on {C} {L} {X} {Y} {at} {l} {i} {j} {x} u k a e c q o g p m =
+    let d : 2 * k + 1 ≡ 2 * newer l i (m .far x / 2) + 1 = ap (λ (t : ℕ). 2 * t + 1) (g ∙ ap (λ (t : ℕ). newer l i (t / 2)) (q ∙ m .are x)) in
     record {
-      far = upd (m .far) (v - 1) (2 * newer l i (m .far (v - 1) / 2) + 1);
-      are = λ y. upd-by (m .far) c a p (m .are) y ∙ ap (λ (t : ℕ). upd (m .far) (v - 1) t y) d;
+      far = upd (m .far) x (2 * newer l i (m .far x / 2) + 1);
+      are = λ y. upd-by (m .far) c a p (m .are) y ∙ ap (λ (t : ℕ). upd (m .far) x t y) d;
       new =
           m .new
-          ∙ ap (λ (vs : List ℕ). all-new vs l i (m .far)) (frees-one C j w v h e f z)
-          ∙ ap (λ (b : Bool). not b && all-new (frees (drop (j + 1) C)) l i (upd (m .far) (v - 1) (2 * newer l i (m .far (v - 1) / 2) + 1))) (ap is-marked (sym (q ∙ m .are (v - 1))) ∙ ne-eqb (u % 2) 1 o);
-      all = m .all ∙ ap (λ (vs : List ℕ). mark-all vs l i (m .far)) (frees-one C j w v h e f z);
+          ∙ ap (λ (vs : List ℕ). all-new vs l i (m .far)) e
+          ∙ ap (λ (b : Bool). not b && all-new (frees (drop (j + 1) C)) l i (upd (m .far) x (2 * newer l i (m .far x / 2) + 1))) (ap is-marked (sym (q ∙ m .are x)) ∙ ne-eqb (u % 2) 1 o);
+      all = m .all ∙ ap (λ (vs : List ℕ). mark-all vs l i (m .far)) e;
     }
 
 -- the same for unmarking
@@ -137,25 +120,19 @@ pub record Undid (C : List Word) (L : List ℕ) (at : ℕ) (X : List ℕ) : Type
 pub unmark-first : (C : List Word) (L : List ℕ) (at : ℕ) → Unmarking C L at L at
 unmark-first C L at = record { far = numbers L; are = λ y. refl; all = refl }
 
-unmarking-done : {C : List Word} {L X : List ℕ} {at j : ℕ} → frees (drop j C) ≡ [] → Unmarking C L at X j → Named L X → Undid C L at X
+pub unmark-end : {C : List Word} {L X : List ℕ} {at j : ℕ} → frees (drop j C) ≡ [] → Unmarking C L at X j → Named L X → Undid C L at X
 unfolding unmark-all
-unmarking-done {C} {L} {X} {at} {j} e m n = record { unmarked = λ y. m .are y ∙ sym (ap (λ (f : ℕ → ℕ). f y) (m .all ∙ ap (λ (vs : List ℕ). unmark-all vs (m .far)) e)); named = n }
-
-pub unmark-end : {C : List Word} {L X : List ℕ} {at j v : ℕ} {w : Word} → j < length C → Read C j w → v ≡ free-no w → v ≡ 0 → Unmarking C L at X j → Named L X → Undid C L at X
-unmark-end {C} {L} {X} {at} {j} {v} {w} h e f z m n = unmarking-done (frees-none C j w v h e f z) m n
+unmark-end {C} {L} {X} {at} {j} e m n = record { unmarked = λ y. m .are y ∙ sym (ap (λ (f : ℕ → ℕ). f y) (m .all ∙ ap (λ (vs : List ℕ). unmark-all vs (m .far)) e)); named = n }
 
 pub unmark-past : {C : List Word} {L X : List ℕ} {at j : ℕ} → length C ≤ j → Unmarking C L at X j → Named L X → Undid C L at X
-unmark-past {C} {L} {X} {at} {j} h m n = unmarking-done (frees-past C j h) m n
+unmark-past {C} {L} {X} {at} {j} h m n = unmark-end (frees-past C j h) m n
 
-pub unmark-on : {C : List Word} {L X Y : List ℕ} {at j v : ℕ} {w : Word} (u : ℕ) → Laid X → j < length C → Read C j w → v ≡ free-no w → (v ≡ 0 → ⊥) → u ≡ numbers X (v - 1) → PutName X (v - 1) (u / 2 * 2) Y → Unmarking C L at X j → Unmarking C L at Y (j + 1)
+pub unmark-on : {C : List Word} {L X Y : List ℕ} {at j x : ℕ} (u : ℕ) → Laid X → frees (drop j C) ≡ x ∷ frees (drop (j + 1) C) → x < 65536 → u ≡ numbers X x → PutName X x (u / 2 * 2) Y → Unmarking C L at X j → Unmarking C L at Y (j + 1)
 unfolding unmark-all
-unmark-on {C} {L} {X} {Y} {at} {j} {v} {w} u a h e f z q p m =
-    let s = e .small in
-    let b = free-small w s in
-    let c : v - 1 < 65536 = omega (arith, b, f, z) in
-    let d : u / 2 * 2 ≡ m .far (v - 1) / 2 * 2 = ap (λ (t : ℕ). t / 2 * 2) (q ∙ m .are (v - 1)) in
+unmark-on {C} {L} {X} {Y} {at} {j} {x} u a e c q p m =
+    let d : u / 2 * 2 ≡ m .far x / 2 * 2 = ap (λ (t : ℕ). t / 2 * 2) (q ∙ m .are x) in
     record {
-      far = upd (m .far) (v - 1) (m .far (v - 1) / 2 * 2);
-      are = λ y. upd-by (m .far) c a p (m .are) y ∙ ap (λ (t : ℕ). upd (m .far) (v - 1) t y) d;
-      all = m .all ∙ ap (λ (vs : List ℕ). unmark-all vs (m .far)) (frees-one C j w v h e f z);
+      far = upd (m .far) x (m .far x / 2 * 2);
+      are = λ y. upd-by (m .far) c a p (m .are) y ∙ ap (λ (t : ℕ). upd (m .far) x t y) d;
+      all = m .all ∙ ap (λ (vs : List ℕ). unmark-all vs (m .far)) e;
     }

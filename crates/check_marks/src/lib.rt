@@ -5,6 +5,7 @@ ghost use Rattle.mem_words.specs.Words.{words};
 ghost use Rattle.work_tables.specs.Tables.{Laid};
 ghost use Rattle.check_roles.specs.Boxes.{newer};
 ghost use Rattle.check_marks.specs.Marking.{Did, Undid};
+use check_kinds::Seen;
 
 // The position of a local where an and-box opens at `i`; it had `g`, and `l` is that of the guard's last and-box.
 fn position(l: usize, i: usize, g: usize) -> usize
@@ -29,17 +30,15 @@ pub fn mark(ws: &[u8], work: &mut [u8], at: usize, l: usize, i: usize) -> bool
     let mut j = at;
     while j < n {
         let w = mem_get::get(ws, j);
-        let y = check_kinds::variable(w);
-        if y == 0 {
+        let Seen::One(x) = check_kinds::variable(w) else {
             return true;
-        }
-        let x = y - 1;
-        let v = check_vartables::name_get(work, x);
+        };
+        let v = check_vartables::name_get(work, x.0);
         if v % 2 == 1 {
             return false;
         }
         let g = position(l, i, v / 2);
-        check_vartables::name_put(work, x, 2 * g + 1);
+        check_vartables::name_put(work, x.0, 2 * g + 1);
         j += 1;
     }
     true
@@ -54,13 +53,11 @@ pub fn unmark(ws: &[u8], work: &mut [u8], at: usize)
     let mut j = at;
     while j < n {
         let w = mem_get::get(ws, j);
-        let y = check_kinds::variable(w);
-        if y == 0 {
+        let Seen::One(x) = check_kinds::variable(w) else {
             return;
-        }
-        let x = y - 1;
-        let v = check_vartables::name_get(work, x);
-        check_vartables::name_put(work, x, v / 2 * 2);
+        };
+        let v = check_vartables::name_get(work, x.0);
+        check_vartables::name_put(work, x.0, v / 2 * 2);
         j += 1;
     }
 }

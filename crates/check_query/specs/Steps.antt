@@ -13,8 +13,8 @@ use Rattle.akl.specs.Base.{all, range}
 use Rattle.mem_words.specs.declared.Word.{Word}
 use Rattle.mem_words.specs.declared.Word.the-variants.{End, Free, Level, Num, Place, Inner, Bad}
 use Rattle.mem_words.specs.Words.{Read}
-use Rattle.check_words.specs.Frees.{frees, free-no, is-and, is-locals}
-use Rattle.check_words.specs.Passes.{drop-word, drop-end, frees-none, frees-one, frees-past, goes-on, stops}
+use Rattle.check_words.specs.Frees.{frees, is-and, is-locals}
+use Rattle.check_words.specs.Passes.{drop-word, drop-end, frees-past, goes-on, stops}
 use Rattle.check_words.specs.Query.{up, down, depth-after, locals-after, box-passes, opening-passes, local-passes, word-passes, query-from, query-passed}
 
 pub fall-some : (d : ℕ) → (d ≡ 0 → ⊥) → d - 1 ≡ down d
@@ -66,19 +66,19 @@ local-other q l x e = sym (ap (λ (l : Bool). local-passes q l x) e)
 pub record Looking (x : ℕ) (W : List Word) (i j : ℕ) : Type 0 where
   pub answer : elem x (frees (drop i W)) ≡ elem x (frees (drop j W))
 
-pub look-none : {x : ℕ} {W : List Word} {i j v : ℕ} {w : Word} → j < length W → Looking x W i j → Read W j w → v ≡ free-no w → v ≡ 0 → false ≡ elem x (frees (drop i W))
+pub look-none : {x : ℕ} {W : List Word} {i j : ℕ} → Looking x W i j → frees (drop j W) ≡ [] → false ≡ elem x (frees (drop i W))
 unfolding elem
-look-none {x} {W} {i} {j} {v} {w} h l e f z = sym (l .answer ∙ ap (elem x) (frees-none W j w v h e f z))
+look-none {x} {W} {i} {j} l e = sym (l .answer ∙ ap (elem x) e)
 
-step : (x : ℕ) (W : List Word) (j v : ℕ) (w : Word) → j < length W → Read W j w → v ≡ free-no w → (v ≡ 0 → ⊥) → elem x (frees (drop j W)) ≡ (eqb x (v - 1) || elem x (frees (drop (j + 1) W)))
+step : (x y : ℕ) (W : List Word) (j : ℕ) → frees (drop j W) ≡ y ∷ frees (drop (j + 1) W) → elem x (frees (drop j W)) ≡ (eqb x y || elem x (frees (drop (j + 1) W)))
 unfolding elem
-step x W j v w h e f n = ap (elem x) (frees-one W j w v h e f n)
+step x y W j e = ap (elem x) e
 
-pub look-found : {x : ℕ} {W : List Word} {i j v : ℕ} {w : Word} → j < length W → Looking x W i j → Read W j w → v ≡ free-no w → (v ≡ 0 → ⊥) → x ≡ v - 1 → true ≡ elem x (frees (drop i W))
-look-found {x} {W} {i} {j} {v} {w} h l e f n q = sym (l .answer ∙ step x W j v w h e f n ∙ ap (λ (b : Bool). b || elem x (frees (drop (j + 1) W))) (eq-eqb x (v - 1) q))
+pub look-found : {x y : ℕ} {W : List Word} {i j : ℕ} → Looking x W i j → frees (drop j W) ≡ y ∷ frees (drop (j + 1) W) → x ≡ y → true ≡ elem x (frees (drop i W))
+look-found {x} {y} {W} {i} {j} l e q = sym (l .answer ∙ step x y W j e ∙ ap (λ (b : Bool). b || elem x (frees (drop (j + 1) W))) (eq-eqb x y q))
 
-pub look-on : {x : ℕ} {W : List Word} {i j v : ℕ} {w : Word} → j < length W → Looking x W i j → Read W j w → v ≡ free-no w → (v ≡ 0 → ⊥) → (x ≡ v - 1 → ⊥) → Looking x W i (j + 1)
-look-on {x} {W} {i} {j} {v} {w} h l e f n q = record { answer = l .answer ∙ step x W j v w h e f n ∙ ap (λ (b : Bool). b || elem x (frees (drop (j + 1) W))) (ne-eqb x (v - 1) q) }
+pub look-on : {x y : ℕ} {W : List Word} {i j : ℕ} → Looking x W i j → frees (drop j W) ≡ y ∷ frees (drop (j + 1) W) → (x ≡ y → ⊥) → Looking x W i (j + 1)
+look-on {x} {y} {W} {i} {j} l e q = record { answer = l .answer ∙ step x y W j e ∙ ap (λ (b : Bool). b || elem x (frees (drop (j + 1) W))) (ne-eqb x y q) }
 
 pub look-past : {x : ℕ} {W : List Word} {i j : ℕ} → length W ≤ j → Looking x W i j → false ≡ elem x (frees (drop i W))
 unfolding elem

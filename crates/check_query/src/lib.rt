@@ -8,6 +8,7 @@ ghost use Rattle.akl.specs.Base.{all, range};
 ghost use Rattle.mem_words.specs.Words.{words};
 ghost use Rattle.check_words.specs.Frees.{frees, is-and};
 ghost use Rattle.check_words.specs.Query.{up, down, depth-after, locals-after, local-passes, opening-passes, word-passes, query-passed};
+use check_kinds::Seen;
 use mem_sorts::Kind;
 use mem_sorts::Sort;
 use mem_words::Word;
@@ -83,15 +84,13 @@ fn holds(ws: &[u8], i: usize, x: usize) -> bool
     ensures { λ r. ⌜ r ≡ elem x (frees (drop i (words (now (ws .entry))))) ⌝ }
 {
     let n = mem_words::count(ws);
-    let y = x + 1;
     let mut j = i;
     while j < n {
         let w = mem_get::get(ws, j);
-        let v = check_kinds::variable(w);
-        if v == 0 {
+        let Seen::One(v) = check_kinds::variable(w) else {
             return false;
-        }
-        if v == y {
+        };
+        if v.0 == x {
             return true;
         }
         j += 1;
