@@ -4,4 +4,5 @@ pub mod Rounds
 pub mod Resting
 pub mod Taken
 pub mod Moving
+pub mod Tabled
 pub mod Boxed

@@ -110,7 +110,7 @@ unfolding only-if
 unsolved true b x e = ap (λ (c : Bool). only-if c x) (sym e)
 unsolved false b x e = refl
 
-or-true : (b : Bool) → b || true ≡ true
+pub or-true : (b : Bool) → b || true ≡ true
 or-true true = refl
 or-true false = refl
 
@@ -143,9 +143,9 @@ module _ (W D : List Word) (j K : ℕ) (e : K ≡ takes-in W j) where
   differ z = let y : _≡_ {A = ℕ} 0 1 = ap (λ (x : Bool). elim x [ true ↦ 1 | false ↦ 0 ]) z in omega (arith, y)
 
   -- no place
-  pub no-place : K ≡ 10 → MovedAt W D j false
+  pub no-place : 10 ≤ K → MovedAt W D j false
   no-place h = record {
-    right = λ a g l u. record { right = λ s χ n pl m p q. absurd (no-place-there W j s pl q (sym e ∙ h)) };
+    right = λ a g l u. record { right = λ s χ n pl m p q. absurd (no-place-there W j s pl q (omega (arith, e, h))) };
     place = λ z. absurd (differ z);
   }
 
@@ -254,7 +254,7 @@ module _ (W : List Word) (j K : ℕ) (e : K ≡ takes-in W j) where
   shape-stirs : ((D : List Word) → MovedAt W D j true) → ByShape W j true
   shape-stirs f = record { stirs = λ z. f; rests = λ z. absurd (differs (sym z)) }
 
-  pub shape-no-place : K ≡ 10 → ByShape W j false
+  pub shape-no-place : 10 ≤ K → ByShape W j false
   shape-no-place h = shape-rests (λ n D. no-place W D j K e h)
 
   pub shape-and-box : K ≡ 7 → ByShape W j false

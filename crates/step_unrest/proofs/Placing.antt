@@ -101,7 +101,7 @@ pub kind-is : (W : List Word) (j : ℕ) (s : State) (pl : places.Place) → Stan
 kind-is W j s (at χ n) p = kind-words (number-in (table s)) n p
 
 -- ten is the number of none
-below-ten : (t : akl-table.Takes) → akl-table.takes-number t < 10
+pub below-ten : (t : akl-table.Takes) → akl-table.takes-number t < 10
 below-ten akl-table.constraint-atom = omega arith
 below-ten akl-table.program-atom = omega arith
 below-ten akl-table.composition = omega arith
@@ -113,7 +113,7 @@ below-ten akl-table.and-box = omega arith
 below-ten akl-table.inner-or-box = omega arith
 below-ten akl-table.other-or-box = omega arith
 
-pub no-place-there : (W : List Word) (j : ℕ) (s : State) (pl : places.Place) → StandsAt s W pl j → takes-in W j ≡ 10 → ⊥
+pub no-place-there : (W : List Word) (j : ℕ) (s : State) (pl : places.Place) → StandsAt s W pl j → 10 ≤ takes-in W j → ⊥
 no-place-there W j s pl p e = let k = kind-is W j s pl p in let b = below-ten (akl-table.kind-at pl) in omega (arith, k, b, e)
 
 -- positions in a goal are positions of the words

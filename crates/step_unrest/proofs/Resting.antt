@@ -97,7 +97,7 @@ module _ (W D : List Word) (g j k : ℕ) (e : k ≡ takes-in W j) where
   -- no place
   pub no-unrest : k ≡ 10 → Unrest W D g j false
   no-unrest z = record {
-    right = λ s χ n pl m p q. absurd (no-place-there W j s pl q (sym e ∙ z));
+    right = λ s χ n pl m p q. absurd (no-place-there W j s pl q (omega (arith, e, z)));
     found = λ y s m. absurd (not-true-false y);
   }
 

@@ -12,7 +12,7 @@ use Rattle.akl.specs.Stability.{disturbs}
 use Rattle.mem_words.specs.declared.Word.{Word}
 use Rattle.store_form.specs.State.{State, program-of, config-of}
 use Rattle.step_meant.specs.Meant.{Meant, StandsAt}
-use Rattle.step_unrest.specs.Disturbing.{DisturbsAt, Disturbed}
+use Rattle.step_unrest.specs.Disturbing.{DisturbsAt, Disturbed, moves-by}
 
 -- f is false before r
 none-before : (f : ℕ → Bool) (r : ℕ) → r < 15 → f r ≡ false → any f (range r (15 - r)) ≡ any f (range (r + 1) (15 - (r + 1)))
@@ -48,3 +48,22 @@ module _ (W D : List Word) (g j : ℕ) where
 
   pub passed-all : (r : ℕ) → 15 ≤ r → Passed W D g j r → Disturbed W D g j false
   passed-all r h a = record { right = λ s χ n pl m p q. sym (a .left s χ n pl m p q ∙ none-left (λ x. disturbs (program-of s) (config-of s) χ n x pl) r h) }
+
+-- ---------------------------------------------------------------------------------------------
+-- The same for the rules that move what is at j.
+
+pub record Unmoved (W : List Word) (j r : ℕ) : Type 0 where
+  pub left : any (moves-by W j) (range 1 14) ≡ any (moves-by W j) (range r (15 - r))
+
+module _ (W : List Word) (j : ℕ) where
+  pub unmoved-first : Unmoved W j 1
+  unmoved-first = record { left = refl }
+
+  pub unmoved-next : (r : ℕ) (b : Bool) → r < 15 → b ≡ moves-by W j r → b ≡ false → Unmoved W j r → Unmoved W j (r + 1)
+  unmoved-next r b h d e a = record { left = a .left ∙ none-before (moves-by W j) r h (sym d ∙ e) }
+
+  pub moved-found : (r : ℕ) (b : Bool) → r < 15 → b ≡ moves-by W j r → b ≡ true → Unmoved W j r → any (moves-by W j) (range 1 14) ≡ true
+  moved-found r b h d e a = a .left ∙ one-there (moves-by W j) r h (sym d ∙ e)
+
+  pub unmoved-all : (r : ℕ) → 15 ≤ r → Unmoved W j r → any (moves-by W j) (range 1 14) ≡ false
+  unmoved-all r h a = a .left ∙ none-left (moves-by W j) r h

@@ -40,12 +40,12 @@ mode-number : Mode → ℕ
 mode-number Determinate = 0
 mode-number Nondeterminate = 1
 
-determinate-is : (m : akl-table.Mode) → Determinate ≡ mode-in m → is-determinate m ≡ true
+pub determinate-is : (m : akl-table.Mode) → Determinate ≡ mode-in m → is-determinate m ≡ true
 unfolding mode-number
 determinate-is determinate e = refl
 determinate-is nondeterminate e = absurd (let z : _≡_ {A = ℕ} 0 1 = ap mode-number e in omega (arith, z))
 
-nondeterminate-is : (m : akl-table.Mode) → Nondeterminate ≡ mode-in m → is-determinate m ≡ false
+pub nondeterminate-is : (m : akl-table.Mode) → Nondeterminate ≡ mode-in m → is-determinate m ≡ false
 unfolding mode-number
 nondeterminate-is determinate e = absurd (let z : _≡_ {A = ℕ} 1 0 = ap mode-number e in omega (arith, z))
 nondeterminate-is nondeterminate e = refl

@@ -1,19 +1,23 @@
 -- A place at or inside a goal, by positions; whether a rule that is determinate rewrites the goal or something inside it when it is
 -- applied there. Each is said of every state that the words mean. Assumes nothing.
 use mathlib.Core.Path.{_≡_}
-use mathlib.Core.Bool.{Bool, true, false}
+use mathlib.Core.Bool.{Bool, true, false, _&&_}
 use mathlib.Core.List.{List}
+use mathlib.Core.Option.{Option, some, none}
 use Prim.Native.Nat.{ℕ, _+_, _<_, _≤_}
+use lib.Dec.{eqb}
 use Rattle.akl.specs.Base.{any, range}
 use Rattle.akl.specs.Configuration.{Kind, Node, Ctx}
 use Rattle.akl.specs.Places.{Place, at}
-use Rattle.akl.specs.Stability.{disturbs}
+use Rattle.akl.specs.Table.{Row, rule-row, takes-number}
+use Rattle.akl.specs.Stability.{is-determinate, disturbs}
 use Rattle.mem_words.specs.declared.Word.{Word}
 use Rattle.store_form.specs.State.{State, program-of, config-of}
 use Rattle.rule_effects.specs.Effects.{behind}
 use Rattle.rule_ranges.specs.Asked.{QuietIn}
 use Rattle.rule_kinds.specs.Kinds.{takes-in}
-use Rattle.rule_applies.specs.declared.Asks.the-variants.{Quiet}
+use Rattle.rule_applies.specs.declared.Asks.{Asks}
+use Rattle.rule_applies.specs.declared.Asks.the-variants.{Never, Always, Quiet, Satisfiable}
 use Rattle.rule_applies.specs.Asking.{asks-in}
 use Rattle.step_meant.specs.Meant.{Meant, StandsAt}
 
@@ -52,3 +56,19 @@ pub record NoneQuiet (W : List Word) (j : ℕ) : Type 0 where
 pub record ByShape (W : List Word) (j : ℕ) (b : Bool) : Type 0 where
   pub stirs : b ≡ true → (D : List Word) → MovedAt W D j true
   pub rests : b ≡ false → NoneQuiet W j → (D : List Word) → MovedAt W D j false
+
+-- Is a rule of this row, which asks a, determinate, does it take places of the kind of number K, and does it apply without a question
+-- to the solver?
+abbrev pub is-always : Asks → Bool
+is-always Never = false
+is-always Always = true
+is-always (Quiet q) = false
+is-always (Satisfiable q) = false
+
+abbrev pub row-moves : ℕ → Asks → Option Row → Bool
+row-moves K a none = false
+row-moves K a (some w) = is-determinate (w .mode) && eqb (takes-number (w .takes)) K && is-always a
+
+-- rule r at the place at j
+unfoldable pub moves-by : List Word → ℕ → ℕ → Bool
+moves-by W j r = row-moves (takes-in W j) (asks-in W j r) (rule-row r)

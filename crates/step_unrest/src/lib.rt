@@ -8,8 +8,8 @@ ghost use Rattle.work_tables.specs.Tables.{Laid};
 ghost use Rattle.rule_effects.specs.Effects.{behind};
 ghost use Rattle.rule_kinds.specs.Kinds.{takes-in};
 ghost use Rattle.step_meant.specs.Asked.{Unrest, CanAsk};
-ghost use Rattle.step_unrest.specs.Disturbing.{CanPlace, DisturbsAt, Disturbed, ByShape};
-use mem_sorts::Kind;
+ghost use Rattle.step_unrest.specs.Disturbing.{CanPlace, DisturbsAt, Disturbed, ByShape, moves-by};
+use rule_applies::Asks;
 use rule_table::Mode;
 use rule_table::Row;
 
@@ -23,7 +23,7 @@ fn disturbed_by(t: &[u8], d: &[u8], w: &mut [u8], g: usize, j: usize, k: usize, 
     match row {
         Row::Absent => false,
         Row::Rule(takes, mode, what) => match mode {
-            Mode::Nondeterminate => false,
+            Mode::Nondeterminate => false, // disturbs nothing
             Mode::Determinate => {
                 let n = rule_table::takes_no(takes);
                 if n != k {
@@ -44,7 +44,7 @@ fn disturbed(t: &[u8], d: &[u8], w: &mut [u8], g: usize, j: usize, k: usize) -> 
     ensures { λ b. ⌜ Disturbed (words (now (t .entry))) (words (now (d .entry))) g j b × Laid (now (w .exit)) ⌝ }
 {
     let mut r = 1;
-    while r < 15 {
+    while r < 15 { // each of the fourteen
         if disturbed_by(t, d, w, g, j, k, r) {
             return true;
         }
@@ -66,34 +66,31 @@ pub fn unrest_at(t: &[u8], d: &[u8], w: &mut [u8], g: usize, j: usize) -> bool
     disturbed(t, d, w, g, j, k)
 }
 
-// Whether rule 10 applies to the choice-box at `j`, or rule 6 without a question to the solver. What is near is looked at first.
-fn choice_box_moves(t: &[u8], j: usize) -> bool
-    requires { ⌜ (j < length (words (now t))) × (5 ≡ takes-in (words (now t)) j) ⌝ }
-    ensures { λ b. ⌜ ByShape (words (now (t .entry))) j b ⌝ }
+// Whether the rule of number `r` is determinate, takes what is at `j`, a place of the kind `k`, and applies without a question to the
+// solver.
+fn moved_by(t: &[u8], j: usize, k: usize, r: usize) -> bool
+    requires { ⌜ (j < length (words (now t))) × (k ≡ takes-in (words (now t)) j) ⌝ }
+    ensures { λ b. ⌜ b ≡ moves-by (words (now (t .entry))) j r ⌝ }
 {
-    let c = mem_words::count(t);
-    if rule_shapes::ends(t, j + 1) {
-        return true; // empty
+    let row = rule_table::row_of(r);
+    match row {
+        Row::Absent => false,
+        Row::Rule(takes, mode, what) => match mode {
+            Mode::Nondeterminate => false, // moves nothing
+            Mode::Determinate => {
+                let n = rule_table::takes_no(takes);
+                if n != k {
+                    return false; // taken elsewhere
+                }
+                match rule_applies::asks_at(t, r, j) {
+                    Asks::Never => false,
+                    Asks::Always => true,
+                    Asks::Quiet(q) => false, // asked by others
+                    Asks::Satisfiable(q) => false,
+                }
+            }
+        },
     }
-    if rule_shapes::is_kind(t, j, Kind::Wait) {
-        if rule_guards::solved(t, j + 2) {
-            return rule_beside::has_one(t, j); // promoted if it is the only one
-        }
-        return false; // not solved
-    }
-    false // promoted only if its guard is quiet
-}
-
-// Whether rule 11 or 13 applies to the guarded goal at `j`; 7 and 8 ask the solver.
-fn guarded_goal_moves(t: &[u8], j: usize) -> bool
-    requires { ⌜ (j < length (words (now t))) × (6 ≡ takes-in (words (now t)) j) ⌝ }
-    ensures { λ b. ⌜ ByShape (words (now (t .entry))) j b ⌝ }
-{
-    let c = mem_words::count(t);
-    if rule_guards::failure(t, j + 1) {
-        return true; // failed
-    }
-    rule_guards::has_parts(t, j + 1) // distributed
 }
 
 // Whether a determinate rule takes the place at `j` of the configuration in `t` and applies, as far as the shape decides it. It then
@@ -109,14 +106,12 @@ pub fn moved_at(t: &[u8], j: usize) -> bool
     if k == 7 {
         return false; // an and-box
     }
-    if k == 9 {
-        return false; // an or-box that no rule takes
+    let mut r = 1; // the first
+    while r < 15 { // rules 1 to 14
+        if moved_by(t, j, k, r) {
+            return true; // moved
+        }
+        r += 1;
     }
-    if k == 5 {
-        return choice_box_moves(t, j);
-    }
-    if k == 6 {
-        return guarded_goal_moves(t, j);
-    }
-    true // a statement, or an or-box in an or-box
+    false // none moves it
 }
