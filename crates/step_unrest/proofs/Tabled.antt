@@ -36,13 +36,6 @@ use Rattle.step_unrest.proofs.Moving.{or-true, shape-no-place, shape-an
 -- ---------------------------------------------------------------------------------------------
 -- One rule.
 
-quiet-asked : (a b c : Bool) (q : ℕ) → is-always (only-if a (only-if b (only-if c (Quiet q)))) ≡ false
-unfolding only-if
-quiet-asked true true true q = refl
-quiet-asked true true false q = refl
-quiet-asked true false c q = refl
-quiet-asked false b c q = refl
-
 module _ (W : List Word) (j r : ℕ) where
   pub absent-rests : Absent ≡ row-in (rule-row r) → false ≡ moves-by W j r
   unfolding moves-by
@@ -68,20 +61,18 @@ module _ (W : List Word) (j r : ℕ) where
       pub asked-moves : (a : Asks) → c ≡ k → a ≡ asks-in W j r → is-always a ≡ moves-by W j r
       asked-moves a s x = row-is true true (is-always a) (λ w m. determinate-is (w .mode) (sym h ∙ m)) (ap₂ eqb (sym ec) (sym ek) ∙ eq-eqb c k s) (ap is-always (sym x))
 
-      -- rules 7 and 8 ask for a quiet guard at most
-      pub seven-rests : c ≡ k → r ≡ 7 → false ≡ moves-by W j r
-      unfolding asks-in asks-7
-      seven-rests s z = sym (ap (λ (n : ℕ). is-always (asks-in W j n)) z ∙ quiet-asked _ _ _ _) ∙ asked-moves (asks-in W j r) s refl
-
-      pub eight-rests : c ≡ k → r ≡ 8 → false ≡ moves-by W j r
-      unfolding asks-in asks-8
-      eight-rests s z = sym (ap (λ (n : ℕ). is-always (asks-in W j n)) z ∙ quiet-asked _ _ _ _) ∙ asked-moves (asks-in W j r) s refl
-
 -- ---------------------------------------------------------------------------------------------
 -- All of them, by the number K of the place's kind.
 
 abbrev pub any-moves : List Word → ℕ → ℕ → Bool
 any-moves W j K = any (λ r. row-moves K (asks-in W j r) (rule-row r)) (range 1 14)
+
+quiet-asked : (a b c : Bool) (q : ℕ) → is-always (only-if a (only-if b (only-if c (Quiet q)))) ≡ false
+unfolding only-if
+quiet-asked true true true q = refl
+quiet-asked true true false q = refl
+quiet-asked true false c q = refl
+quiet-asked false b c q = refl
 
 module _ (W : List Word) (j K : ℕ) (e : K ≡ takes-in W j) where
   -- a choice-box: rules 6 and 10

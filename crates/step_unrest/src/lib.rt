@@ -67,7 +67,7 @@ pub fn unrest_at(t: &[u8], d: &[u8], w: &mut [u8], g: usize, j: usize) -> bool
 }
 
 // Whether the rule of number `r` is determinate, takes what is at `j`, a place of the kind `k`, and applies without a question to the
-// solver. Rules 7 and 8 never do; that they are not asked saves a look for their operator back over all guarded goals beside.
+// solver.
 fn moved_by(t: &[u8], j: usize, k: usize, r: usize) -> bool
     requires { ⌜ (j < length (words (now t))) × (k ≡ takes-in (words (now t)) j) ⌝ }
     ensures { λ b. ⌜ b ≡ moves-by (words (now (t .entry))) j r ⌝ }
@@ -81,12 +81,6 @@ fn moved_by(t: &[u8], j: usize, k: usize, r: usize) -> bool
                 let n = rule_table::takes_no(takes);
                 if n != k {
                     return false; // taken elsewhere
-                }
-                if r == 7 {
-                    return false; // asks for a quiet guard at most
-                }
-                if r == 8 {
-                    return false; // so does 8
                 }
                 match rule_applies::asks_at(t, r, j) {
                     Asks::Never => false,
