@@ -92,7 +92,7 @@ three-tests true true false q = inl refl
 three-tests true false c q = inl refl
 three-tests false b c q = inl refl
 
-not-waiting : (a b c : Bool) (q : ℕ) → c ≡ false → (Never ≡ only-if a (only-if b (cond c Always (Quiet q)))) ⊎ (Quiet q ≡ only-if a (only-if b (cond c Always (Quiet q))))
+pub not-waiting : (a b c : Bool) (q : ℕ) → c ≡ false → (Never ≡ only-if a (only-if b (cond c Always (Quiet q)))) ⊎ (Quiet q ≡ only-if a (only-if b (cond c Always (Quiet q))))
 unfolding only-if
 not-waiting true true true q e = absurd (let y : _≡_ {A = ℕ} 1 0 = ap (λ (x : Bool). elim x [ true ↦ 1 | false ↦ 0 ]) e in omega (arith, y))
 not-waiting true true false q e = inr refl
@@ -100,12 +100,12 @@ not-waiting true false c q e = inl refl
 not-waiting false b c q e = inl refl
 
 -- with `?` the solver is not asked
-waiting : (a b c : Bool) (q : ℕ) → b ≡ true → c ≡ true → cond a Always Never ≡ only-if a (only-if b (cond c Always (Quiet q)))
+pub waiting : (a b c : Bool) (q : ℕ) → b ≡ true → c ≡ true → cond a Always Never ≡ only-if a (only-if b (cond c Always (Quiet q)))
 unfolding only-if
 waiting true b c q e z = ap (λ (x : Bool). only-if x (cond true Always (Quiet q))) (sym e) ∙ ap (λ (x : Bool). only-if b (cond x Always (Quiet q))) (sym z)
 waiting false b c q e z = refl
 
-unsolved : (a b : Bool) (x : Asks) → b ≡ false → Never ≡ only-if a (only-if b x)
+pub unsolved : (a b : Bool) (x : Asks) → b ≡ false → Never ≡ only-if a (only-if b x)
 unfolding only-if
 unsolved true b x e = ap (λ (c : Bool). only-if c x) (sym e)
 unsolved false b x e = refl

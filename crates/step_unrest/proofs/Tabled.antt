@@ -1,6 +1,7 @@
 -- What moves at a place, by the table of the rules.
 use mathlib.Core.Path.{_≡_, refl, ap, ap₂, sym, _∙_, subst}
 use mathlib.Core.Bool.{Bool, true, false, cond, _&&_, _||_}
+use mathlib.Core.Logic.{_⊎_, inl, inr}
 use mathlib.Core.List.{List, [], _∷_}
 use mathlib.Core.Option.{Option, some, none}
 use Prim.Native.Nat.{ℕ, zero, suc, _+_, _≤_}
@@ -12,7 +13,6 @@ use Rattle.akl.specs.Table as akl-table
 use Rattle.akl.specs.Table.{rule-row, takes-number}
 use Rattle.akl.specs.Stability.{is-determinate}
 use Rattle.mem_words.specs.declared.Word.{Word}
-use Rattle.mem_sorts.specs.Shapes.{pick}
 use Rattle.mem_sorts.specs.declared.Kind.the-variants.{Wait, Cond, Commit}
 use Rattle.rule_table.specs.declared.Takes.{Takes}
 use Rattle.rule_table.specs.declared.Mode.{Mode}
@@ -20,7 +20,7 @@ use Rattle.rule_table.specs.declared.Mode.the-variants.{Determinate, Nondetermi
 use Rattle.rule_table.specs.declared.Rewrites.{Rewrites}
 use Rattle.rule_table.specs.declared.Row.the-variants.{Absent, Rule}
 use Rattle.rule_table.specs.Rows.{takesNo, mode-in, row-in, takes-numbered}
-use Rattle.rule_table.proofs.Table.{Found, row-found, row-absent}
+use Rattle.rule_table.proofs.Table.{row-found, row-absent}
 use Rattle.rule_words.specs.Scans.{around}
 use Rattle.rule_effects.specs.Conditions as shapes
 use Rattle.rule_effects.specs.Conditions.{ends-at, solved-at, failure-at, parts-at, right-at, left-at, one-at}
@@ -31,7 +31,7 @@ use Rattle.rule_applies.specs.Asking.{only-if, asks-6, asks-7, asks-8, asks-10,
 use Rattle.step_unrest.specs.Disturbing.{ByShape, is-always, row-moves, moves-by}
 use Rattle.step_unrest.proofs.Placing.{below-ten}
 use Rattle.step_unrest.proofs.Rows.{determinate-is, nondeterminate-is}
-use Rattle.step_unrest.proofs.Moving.{or-true, shape-no-place, shape-and-box, shape-or-box, shape-at-once, shape-empty, shape-promoted, shape-unsolved, shape-asked, shape-failed, shape-parts}
+use Rattle.step_unrest.proofs.Moving.{waiting, not-waiting, unsolved, or-true, shape-no-place, shape-and-box, shape-or-box, shape-at-once, shape-empty, shape-promoted, shape-unsolved, shape-asked, shape-failed, shape-parts}
 
 -- ---------------------------------------------------------------------------------------------
 -- One rule.
@@ -58,14 +58,11 @@ module _ (W : List Word) (j r : ℕ) where
       other-rests n = row-is true false _ (λ w m. determinate-is (w .mode) (sym h ∙ m)) (ap₂ eqb (sym ec) (sym ek) ∙ ne-eqb c k n) refl
 
       -- what it asks decides
-      pub asked-moves : (a : Asks) → c ≡ k → a ≡ asks-in W j r → is-always a ≡ moves-by W j r
-      asked-moves a s x = row-is true true (is-always a) (λ w m. determinate-is (w .mode) (sym h ∙ m)) (ap₂ eqb (sym ec) (sym ek) ∙ eq-eqb c k s) (ap is-always (sym x))
+      pub asked-moves : (b : Bool) → c ≡ k → b ≡ is-always (asks-in W j r) → b ≡ moves-by W j r
+      asked-moves b s x = row-is true true b (λ w m. determinate-is (w .mode) (sym h ∙ m)) (ap₂ eqb (sym ec) (sym ek) ∙ eq-eqb c k s) (sym x)
 
 -- ---------------------------------------------------------------------------------------------
--- All of them, by the number K of the place's kind.
-
-abbrev pub any-moves : List Word → ℕ → ℕ → Bool
-any-moves W j K = any (λ r. row-moves K (asks-in W j r) (rule-row r)) (range 1 14)
+-- Whether a rule applies without a question to the solver.
 
 quiet-asked : (a b c : Bool) (q : ℕ) → is-always (only-if a (only-if b (only-if c (Quiet q)))) ≡ false
 unfolding only-if
@@ -73,6 +70,50 @@ quiet-asked true true true q = refl
 quiet-asked true true false q = refl
 quiet-asked true false c q = refl
 quiet-asked false b c q = refl
+
+module _ (W : List Word) (j : ℕ) where
+  -- rule 6: with `?`, solved, and the only one
+  pub six-waits : (a b c : Bool) → a ≡ shapes.kind-at W j Wait → a ≡ true → b ≡ solved-at W (j + 2) → b ≡ true → c ≡ one-at W j → c ≡ is-always (asks-6 W j)
+  unfolding asks-6
+  six-waits a b c ea za eb zb ec = go c ∙ ap (λ (x : Bool). is-always (cond x Always Never)) ec ∙ ap is-always (waiting (one-at W j) (solved-at W (j + 2)) (shapes.kind-at W j Wait) (j + 2) (sym eb ∙ zb) (sym ea ∙ za))
+    where
+      go : (x : Bool) → x ≡ is-always (cond x Always Never)
+      go true = refl
+      go false = refl
+
+  pub six-unsolved : (b : Bool) → b ≡ solved-at W (j + 2) → b ≡ false → false ≡ is-always (asks-6 W j)
+  unfolding asks-6
+  six-unsolved b eb zb = ap is-always (unsolved (one-at W j) (solved-at W (j + 2)) (cond (shapes.kind-at W j Wait) Always (Quiet (j + 2))) (sym eb ∙ zb))
+
+  pub six-asks : (a : Bool) → a ≡ shapes.kind-at W j Wait → a ≡ false → false ≡ is-always (asks-6 W j)
+  unfolding asks-6
+  six-asks a ea za = go (asks-6 W j) (not-waiting (one-at W j) (solved-at W (j + 2)) (shapes.kind-at W j Wait) (j + 2) (sym ea ∙ za))
+    where
+      go : (x : Asks) → (Never ≡ x) ⊎ (Quiet (j + 2) ≡ x) → false ≡ is-always x
+      go x (inl e) = ap is-always e
+      go x (inr e) = ap is-always e
+
+  pub by-six : (r : ℕ) (b : Bool) → r ≡ 6 → b ≡ is-always (asks-6 W j) → b ≡ is-always (asks-in W j r)
+  unfolding asks-in
+  by-six r b e f = f ∙ ap (λ (n : ℕ). is-always (asks-in W j n)) (sym e)
+
+  -- rules 7 and 8 ask
+  pub by-seven : (r : ℕ) → r ≡ 7 → false ≡ is-always (asks-in W j r)
+  unfolding asks-in asks-7
+  by-seven r e = sym (quiet-asked (shapes.kind-at W (around W j) Cond) (solved-at W (j + 1)) (right-at W j) (j + 1)) ∙ ap (λ (n : ℕ). is-always (asks-in W j n)) (sym e)
+
+  pub by-eight : (r : ℕ) → r ≡ 8 → false ≡ is-always (asks-in W j r)
+  unfolding asks-in asks-8
+  by-eight r e = sym (quiet-asked (shapes.kind-at W (around W j) Commit) (solved-at W (j + 1)) (left-at W j || right-at W j) (j + 1)) ∙ ap (λ (n : ℕ). is-always (asks-in W j n)) (sym e)
+
+  pub by-asking : (r : ℕ) (a : Asks) → a ≡ asks-in W j r → is-always a ≡ is-always (asks-in W j r)
+  by-asking r a e = ap is-always e
+
+-- ---------------------------------------------------------------------------------------------
+-- All of them, by the number K of the place's kind.
+
+abbrev pub any-moves : List Word → ℕ → ℕ → Bool
+any-moves W j K = any (λ r. row-moves K (asks-in W j r) (rule-row r)) (range 1 14)
 
 module _ (W : List Word) (j K : ℕ) (e : K ≡ takes-in W j) where
   -- a choice-box: rules 6 and 10

@@ -57,14 +57,14 @@ pub record ByShape (W : List Word) (j : ℕ) (b : Bool) : Type 0 where
   pub stirs : b ≡ true → (D : List Word) → MovedAt W D j true
   pub rests : b ≡ false → NoneQuiet W j → (D : List Word) → MovedAt W D j false
 
--- Is a rule of this row, which asks a, determinate, does it take places of the kind of number K, and does it apply without a question
--- to the solver?
+-- does a rule that asks this apply without a question to the solver?
 abbrev pub is-always : Asks → Bool
 is-always Never = false
 is-always Always = true
 is-always (Quiet q) = false
 is-always (Satisfiable q) = false
 
+-- Is a rule of this row, which asks a, determinate, does it take places of the kind of number K, and does it so apply?
 abbrev pub row-moves : ℕ → Asks → Option Row → Bool
 row-moves K a none = false
 row-moves K a (some w) = is-determinate (w .mode) && eqb (takes-number (w .takes)) K && is-always a

@@ -7,8 +7,10 @@ ghost use Rattle.mem_words.specs.Words.{words};
 ghost use Rattle.work_tables.specs.Tables.{Laid};
 ghost use Rattle.rule_effects.specs.Effects.{behind};
 ghost use Rattle.rule_kinds.specs.Kinds.{takes-in};
+ghost use Rattle.rule_applies.specs.Asking.{asks-6, asks-in};
 ghost use Rattle.step_meant.specs.Asked.{Unrest, CanAsk};
-ghost use Rattle.step_unrest.specs.Disturbing.{CanPlace, DisturbsAt, Disturbed, ByShape, moves-by};
+ghost use Rattle.step_unrest.specs.Disturbing.{CanPlace, DisturbsAt, Disturbed, ByShape, is-always, moves-by};
+use mem_sorts::Kind;
 use rule_applies::Asks;
 use rule_table::Mode;
 use rule_table::Row;
@@ -66,6 +68,44 @@ pub fn unrest_at(t: &[u8], d: &[u8], w: &mut [u8], g: usize, j: usize) -> bool
     disturbed(t, d, w, g, j, k)
 }
 
+// Whether rule 6 applies to the choice-box at `j` without a question to the solver. What is near is looked at first.
+fn promoted(t: &[u8], j: usize) -> bool
+    requires { ⌜ j < length (words (now t)) ⌝ }
+    ensures { λ b. ⌜ b ≡ is-always (asks-6 (words (now (t .entry))) j) ⌝ }
+{
+    let c = mem_words::count(t);
+    if rule_shapes::is_kind(t, j, Kind::Wait) {
+        if rule_guards::solved(t, j + 2) {
+            return rule_beside::has_one(t, j); // promoted if it is the only one
+        }
+        return false; // not solved
+    }
+    false // promoted only if its guard is quiet
+}
+
+// Whether the rule of number `r` applies, at the place at `j` of the kind that it takes, without a question to the solver. Rules 7 and
+// 8 never do: they are not asked, because they would look for the choice-box around.
+fn applies_at_once(t: &[u8], j: usize, r: usize) -> bool
+    requires { ⌜ j < length (words (now t)) ⌝ }
+    ensures { λ b. ⌜ b ≡ is-always (asks-in (words (now (t .entry))) j r) ⌝ }
+{
+    if r == 6 {
+        return promoted(t, j);
+    }
+    if r == 7 {
+        return false; // condition
+    }
+    if r == 8 {
+        return false; // commitment
+    }
+    match rule_applies::asks_at(t, r, j) {
+        Asks::Never => false,
+        Asks::Always => true,
+        Asks::Quiet(q) => false, // asked by others
+        Asks::Satisfiable(q) => false,
+    }
+}
+
 // Whether the rule of number `r` is determinate, takes what is at `j`, a place of the kind `k`, and applies without a question to the
 // solver.
 fn moved_by(t: &[u8], j: usize, k: usize, r: usize) -> bool
@@ -82,12 +122,7 @@ fn moved_by(t: &[u8], j: usize, k: usize, r: usize) -> bool
                 if n != k {
                     return false; // taken elsewhere
                 }
-                match rule_applies::asks_at(t, r, j) {
-                    Asks::Never => false,
-                    Asks::Always => true,
-                    Asks::Quiet(q) => false, // asked by others
-                    Asks::Satisfiable(q) => false,
-                }
+                applies_at_once(t, j, r)
             }
         },
     }

@@ -2,7 +2,6 @@
 use mathlib.Core.Path.{_≡_, sym, _∙_}
 use native.Mathlib.Omega.{arith}
 use Rattle.mem_words.specs.Words.{words}
-use Rattle.rule_applies.specs.declared.Asks.the-variants.{Never, Always, Quiet, Satisfiable}
 use Rattle.step_unrest.proofs.Tabled.{absent-rests, nondeterminate-rests, other-rests, asked-moves}
 use borrow.Author.Needs.{needs}
 use Rattle.step_unrest.proofs.moved_by.Statement.{statement}
@@ -29,20 +28,8 @@ takes-no-requires c κs = search needs
 returns : tie.Need-returns
 returns c = other-rests (words (c .before .before .before .before .before .before .before .before .before .args .t .now)) (c .before .before .before .before .before .before .before .before .before .args .j) (c .before .before .before .before .before .before .before .before .before .args .r) _ _ _ (sym (c .before .before .before .before .before .row .given .1) ∙ c .before .before .before .before .before .before .before .row-of .ensures) (c .before .before .enum-told3 .given .1) (c .before .before .before .before .before .before .before .before .before .args .k) (c .before .takes-no .result) (c .before .before .before .before .before .before .before .before .before .pre .1) (c .before .takes-no .ensures .0) (λ z. omega (arith, z))
 
-asks-at-requires : tie.Need-asks-at-requires
-asks-at-requires c κs = omega (arith, c .before .before .before .before .before .before .before .before .before .pre .0)
-
-enum-told-4 : tie.Need-enum-told-4
-enum-told-4 c = search needs
-
-enum-told-5 : tie.Need-enum-told-5
-enum-told-5 c = search needs
-
-enum-known-q : tie.Need-enum-known-q
-enum-known-q c = search needs
-
-enum-known-q-2 : tie.Need-enum-known-q-2
-enum-known-q-2 c = search needs
+applies-at-once-requires : tie.Need-applies-at-once-requires
+applies-at-once-requires c κs = c .before .before .before .before .before .before .before .before .before .pre .0
 
 returns-2 : tie.Need-returns-2
 returns-2 c = absent-rests (words (c .before .before .before .before .args .t .now)) (c .before .before .before .before .args .j) (c .before .before .before .before .args .r) (sym (c .enum-told .given .1) ∙ c .before .before .row-of .ensures)
@@ -51,16 +38,7 @@ returns-3 : tie.Need-returns-3
 returns-3 c = nondeterminate-rests (words (c .before .before .before .before .before .before .before .args .t .now)) (c .before .before .before .before .before .before .before .args .j) (c .before .before .before .before .before .before .before .args .r) _ _ _ (sym (c .before .before .before .row .given .1) ∙ c .before .before .before .before .before .row-of .ensures) (c .enum-told2 .given .1)
 
 returns-4 : tie.Need-returns-4
-returns-4 c = asked-moves (words (c .before .before .before .before .before .before .before .before .before .before .before .before .args .t .now)) (c .before .before .before .before .before .before .before .before .before .before .before .before .args .j) (c .before .before .before .before .before .before .before .before .before .before .before .before .args .r) _ _ _ (sym (c .before .before .before .before .before .before .before .before .row .given .1) ∙ c .before .before .before .before .before .before .before .before .before .before .row-of .ensures) (c .before .before .before .before .before .enum-told3 .given .1) (c .before .before .before .before .before .before .before .before .before .before .before .before .args .k) (c .before .before .before .before .takes-no .result) (c .before .before .before .before .before .before .before .before .before .before .before .before .pre .1) (c .before .before .before .before .takes-no .ensures .0) Never (omega arith) (sym (c .enum-told4 .given .1) ∙ c .before .before .asks-at .ensures)
-
-returns-5 : tie.Need-returns-5
-returns-5 c = asked-moves (words (c .before .before .before .before .before .before .before .before .before .before .before .before .args .t .now)) (c .before .before .before .before .before .before .before .before .before .before .before .before .args .j) (c .before .before .before .before .before .before .before .before .before .before .before .before .args .r) _ _ _ (sym (c .before .before .before .before .before .before .before .before .row .given .1) ∙ c .before .before .before .before .before .before .before .before .before .before .row-of .ensures) (c .before .before .before .before .before .enum-told3 .given .1) (c .before .before .before .before .before .before .before .before .before .before .before .before .args .k) (c .before .before .before .before .takes-no .result) (c .before .before .before .before .before .before .before .before .before .before .before .before .pre .1) (c .before .before .before .before .takes-no .ensures .0) Always (omega arith) (sym (c .enum-told5 .given .1) ∙ c .before .before .asks-at .ensures)
-
-returns-6 : tie.Need-returns-6
-returns-6 c = asked-moves (words (c .before .before .before .before .before .before .before .before .before .before .before .before .before .args .t .now)) (c .before .before .before .before .before .before .before .before .before .before .before .before .before .args .j) (c .before .before .before .before .before .before .before .before .before .before .before .before .before .args .r) _ _ _ (sym (c .before .before .before .before .before .before .before .before .before .row .given .1) ∙ c .before .before .before .before .before .before .before .before .before .before .before .row-of .ensures) (c .before .before .before .before .before .before .enum-told3 .given .1) (c .before .before .before .before .before .before .before .before .before .before .before .before .before .args .k) (c .before .before .before .before .before .takes-no .result) (c .before .before .before .before .before .before .before .before .before .before .before .before .before .pre .1) (c .before .before .before .before .before .takes-no .ensures .0) (Quiet _) (omega arith) (sym (c .before .q .given .1) ∙ c .before .before .before .asks-at .ensures)
-
-returns-7 : tie.Need-returns-7
-returns-7 c = asked-moves (words (c .before .before .before .before .before .before .before .before .before .before .before .before .before .args .t .now)) (c .before .before .before .before .before .before .before .before .before .before .before .before .before .args .j) (c .before .before .before .before .before .before .before .before .before .before .before .before .before .args .r) _ _ _ (sym (c .before .before .before .before .before .before .before .before .before .row .given .1) ∙ c .before .before .before .before .before .before .before .before .before .before .before .row-of .ensures) (c .before .before .before .before .before .before .enum-told3 .given .1) (c .before .before .before .before .before .before .before .before .before .before .before .before .before .args .k) (c .before .before .before .before .before .takes-no .result) (c .before .before .before .before .before .before .before .before .before .before .before .before .before .pre .1) (c .before .before .before .before .before .takes-no .ensures .0) (Satisfiable _) (omega arith) (sym (c .before .q2 .given .1) ∙ c .before .before .before .asks-at .ensures)
+returns-4 c = asked-moves (words (c .before .before .before .before .before .before .before .before .before .before .args .t .now)) (c .before .before .before .before .before .before .before .before .before .before .args .j) (c .before .before .before .before .before .before .before .before .before .before .args .r) _ _ _ (sym (c .before .before .before .before .before .before .row .given .1) ∙ c .before .before .before .before .before .before .before .before .row-of .ensures) (c .before .before .before .enum-told3 .given .1) (c .before .before .before .before .before .before .before .before .before .before .args .k) (c .before .before .takes-no .result) (c .before .before .before .before .before .before .before .before .before .before .pre .1) (c .before .before .takes-no .ensures .0) (c .applies-at-once .result) (omega arith) (c .applies-at-once .ensures)
 
 pub moved-by-spec : {M : Type 1} → statement M
-moved-by-spec = tie.close (tie.spec row-of-requires enum-told enum-known-row enum-told-2 enum-told-3 takes-no-requires returns asks-at-requires enum-told-4 enum-told-5 enum-known-q enum-known-q-2 returns-2 returns-3 returns-4 returns-5 returns-6 returns-7)
+moved-by-spec = tie.close (tie.spec row-of-requires enum-told enum-known-row enum-told-2 enum-told-3 takes-no-requires returns applies-at-once-requires returns-2 returns-3 returns-4)
