@@ -1,13 +1,14 @@
 // The state of a configuration, how many answers it has, and where they stand in its words.
 ghost use Rattle.mem_words.specs.Words.{words};
 ghost use Rattle.work_tables.specs.Tables.{Laid};
+ghost use Rattle.rule_solve.specs.Idle.{Idle};
 ghost use Rattle.answer_boxes.specs.Asked.{MeantSome, GoalAt, AnswerAt, CountIs, Found, StateIs};
 use mem_sorts::Kind;
 
 // Whether the goal at `j` is an answer, where nothing but or-boxes is around it.
 fn answer_at(t: &[u8], w: &mut [u8], j: usize) -> bool
-    requires { ⌜ Laid (now w) × GoalAt (words (now t)) j ⌝ }
-    ensures { λ r. ⌜ AnswerAt (words (now (t .entry))) j r × Laid (now (w .exit)) ⌝ }
+    requires { ⌜ Idle (now w) × GoalAt (words (now t)) j ⌝ }
+    ensures { λ r. ⌜ AnswerAt (words (now (t .entry))) j r × Idle (now (w .exit)) ⌝ }
 {
     if rule_guards::solved(t, j) {
         return rule_solve::sat_at(t, w, j);
@@ -20,6 +21,7 @@ pub fn count(t: &[u8], w: &mut [u8]) -> usize
     requires { ⌜ Laid (now w) × MeantSome (words (now t)) ⌝ }
     ensures { λ r. ⌜ CountIs (words (now (t .entry))) r × Laid (now (w .exit)) ⌝ }
 {
+    rule_solve::ready(w);
     let n = mem_words::count(t);
     let mut j = 1;
     let mut c = 0;
@@ -48,6 +50,7 @@ pub fn find(t: &[u8], w: &mut [u8], n: usize) -> usize
     if n == 0 {
         return m;
     }
+    rule_solve::ready(w);
     let mut j = 1;
     let mut k = n;
     while j < m {
@@ -78,6 +81,7 @@ pub fn state(t: &[u8], w: &mut [u8]) -> usize
     if rule_shapes::ends(t, 1) {
         return 0; // empty
     }
+    rule_solve::ready(w);
     let mut j = 1;
     while j < n {
         if rule_shapes::ends(t, j) {

@@ -53,7 +53,7 @@ ran-none t b u C =
       holds = C .holds .holds;
       same =
           ap (run-read most-parts working-bytes b (length u)) (C .reads)
-          ∙ some-held most-parts working-bytes b (length u) (λ s. run-done most-parts b (states-after most-parts s 0 (C .steps))) (long-enough b (length u) (C .long) (C .laid .long)) s (C .holds .holds);
+          ∙ some-held most-parts working-bytes b (length u) (λ s. run-done most-parts b (states-after most-parts s 0 (C .steps))) (long-enough b (length u) (C .long) (C .idle .walk .laid .long)) s (C .holds .holds);
     }
 
 module _ (t b₀ : List ℕ) (w from n : ℕ) (b : List ℕ) (R : Ran t b₀ w from n b) where

@@ -21,6 +21,7 @@ use Rattle.store_calls.proofs.Any.{short-first, none-held, text-first}
 use Rattle.store_lent.specs.Lent.{working-bytes}
 use Rattle.check_store.specs.Store.{Formed}
 use Rattle.call_slices.proofs.Slices.{store-short, working-short, long-enough, none-formed, some-formed}
+use Rattle.rule_solve.specs.Idle.{Idle}
 use Rattle.call_run.specs.Called.{run-number, RunTo, CanRun}
 use Rattle.call_run.proofs.Text.{not-both}
 
@@ -73,8 +74,8 @@ module _ (t b : List ℕ) (w : ℕ) where
     before-held h g r q f = refuses 9 (ap (run-read most-parts working-bytes b w) reads ∙ none-held most-parts working-bytes b w done-with (long-enough b w h g) (none-formed b r q f))
 
     -- none of them
-    pub can-run : (u : List ℕ) → 270429 ≤ length b → 524288 ≤ length u → (r : Bool) → r ≡ true → Formed b r → CanRun t b u
-    can-run u h g r q f = record { steps = ks; reads = reads; long = h; laid = record { long = g }; holds = some-formed b r q f }
+    pub can-run : (u : List ℕ) → 270429 ≤ length b → Idle u → (r : Bool) → r ≡ true → Formed b r → CanRun t b u
+    can-run u h g r q f = record { steps = ks; reads = reads; long = h; idle = g; holds = some-formed b r q f }
 
 -- what the steps lead to goes by the length of the working slice, which no function changes
 pub same-working : {t b b′ : List ℕ} {w x : ℕ} (v : ℕ) → w ≡ v → RunTo t b w b′ x → RunTo t b v b′ x

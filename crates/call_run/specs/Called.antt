@@ -10,7 +10,7 @@ use Rattle.runs.specs.Outcomes.{Outcome}
 use Rattle.store_calls.specs.Outcomes.{run-outcome}
 use Rattle.store_calls.specs.Handed.{returned, counted}
 use Rattle.store_lent.specs.Lent.{working-bytes}
-use Rattle.work_tables.specs.Tables.{Laid}
+use Rattle.rule_solve.specs.Idle.{Idle}
 use Rattle.step_meant.specs.Deciding.{HoldsState}
 
 -- how many steps are accepted and the refusal, of the call or of the next step, in one number: refusals are below 256
@@ -27,10 +27,11 @@ pub record RunCalled (t b u b′ u′ : List ℕ) (x : ℕ) : Type 0 where
   pub run : RunTo t b (length u) b′ x
   pub working : u′ ≡ replicate (length u) 0
 
--- nothing is refused before the first step is tried: neither the text nor a slice nor the store
+-- nothing is refused before the first step is tried: neither the text nor a slice nor the store; the solver has
+-- been told nothing
 pub record CanRun (t b u : List ℕ) : Type 0 where
   pub steps : List Step
   pub reads : read-steps t ≡ ok steps
   pub long : 270429 ≤ length b
-  pub laid : Laid u
+  pub idle : Idle u
   pub holds : HoldsState b

@@ -48,6 +48,7 @@ fn judged(steps: &[u8], store: &mut [u8], work: &mut [u8]) -> usize
                 return 8;
             }
             if check_store::formed(store, work) {
+                rule_solve::ready(work);
                 return tried(steps, store, work);
             }
             9

@@ -21,6 +21,7 @@ fn judged(
         return 8;
     }
     if check_store::formed(store, work) {
+        rule_solve::ready(work);
         return step_store::step(store, work, rule, place, argument);
     }
     9

@@ -1,3 +1,4 @@
 pub mod Starts
+pub mod Idling
 pub mod Silence
 pub mod Quieting

@@ -1,48 +1,62 @@
 -- The answers on the stores inside a goal, with all locals inside it marked. Assumes nothing.
-use mathlib.Core.Path.{_≡_, sym, _∙_, subst}
-use mathlib.Core.Bool.{true, false}
+use mathlib.Core.Path.{_≡_, sym, subst}
+use mathlib.Core.Bool.{Bool, true, false}
 use mathlib.Core.List.{List, [], _∷_, _++_}
-use Prim.Native.Nat.{ℕ, _+_}
+use Prim.Native.Nat.{ℕ, _+_, _≤_, _<_}
 use native.Mathlib.Omega.{arith}
+use lib.ListN.{length}
 use Rattle.mem_words.specs.declared.Word.{Word}
-use Rattle.mem_parts.specs.Parts.{Outside, outside-then, outside-wide, Zeroed, cut-right}
-use Rattle.solve_quiet.specs.Solver.{Marking, CanCalm, Calmed}
+use Rattle.mem_parts.specs.Parts.{Outside, outside-then, outside-wide, Zeroed}
+use Rattle.solve_quiet.specs.Solver.{Marking, CanCalm, Calmed, Kept}
 use Rattle.solve_quiet.specs.declared.Calm.{Calm}
 use Rattle.solve_quiet.specs.declared.Calm.the-variants.{Silent, Loudly, NoSpace}
 use Rattle.work_tables.specs.Tables.{cellsOf, varsOf, oldsOf, posOf, logOf, marksOf, stackOf, donesOf, localsOf, Laid, Logged, Tried, laid-after}
+use Rattle.work_ranges.specs.Backs.{BackIn}
+use Rattle.work_marks.specs.Marks.{Walk, Returns}
+use Rattle.work_marks.proofs.Walking.{walk-back, walk-beside}
 use Rattle.work_enter.specs.Enters.{At}
-use Rattle.work_judge.specs.Judging.{Locals}
+use Rattle.rule_locals.specs.Inside.{Given}
+use Rattle.rule_locals.proofs.Givings.{marked-now, unmarked-now}
 use Rattle.rule_ranges.specs.Ranges.{ranges-from, locals-at}
 use Rattle.rule_ranges.specs.Asked.{Roomy, RoomFor, QuietIn}
 use Rattle.rule_ranges.proofs.Drawing.{from-drawn, drawn-both}
 use Rattle.rule_tells.specs.declared.Around.{Around}
 use Rattle.rule_tells.specs.declared.Around.the-variants.{All, Failed}
 use Rattle.rule_tells.specs.Telling.{CanTellAll, AllOf, NoneOf, ToldAll}
-use Rattle.rule_solve.proofs.Starts.{start-at, start-can}
-use Rattle.rule_solve.proofs.Silence.{env-can, inner-can, inner-none, can-quiet, inner-silent, inner-loud, inner-room}
+use Rattle.rule_solve.specs.Idle.{Idle, CanQuiet}
+use Rattle.rule_solve.proofs.Starts.{idle-at, start-at, idle-can}
+use Rattle.rule_solve.proofs.Idling.{marks-kept}
+use Rattle.rule_solve.proofs.Silence.{env-can, inner-can, inner-none, can-quiet, inner-silent, inner-loud, inner-room, inner-returns}
 
-module _ (W : List Word) (L A B : List ℕ) (g j : ℕ) (h : Laid L) (ry : Roomy W) (rm : RoomFor W (ranges-from W 0 g ++ ranges-from W g (j + 1))) (lc : Locals L (locals-at W g) A) (z : Zeroed 16384 212992 A B) where
+-- the verdict; nothing is told afterwards, and the marks are as they were
+abbrev pub Said : List Word → List ℕ → ℕ → ℕ → Bool → List ℕ → Type 0
+Said W B g j r X = QuietIn W g j r × Walk X [] × Outside 0 335872 B X
+
+module _ (W : List Word) (B : List ℕ) (g j : ℕ) (c : CanQuiet W B g j) where
+  ry : Roomy W
+  ry = c .roomy
+
   all-can : CanTellAll W B (ranges-from W 0 g ++ ranges-from W g (j + 1)) 0 0 0
-  all-can = start-can (laid-after h (lc .rest)) z ry rm (drawn-both W (ranges-from W 0 g) (ranges-from W g (j + 1)) (0 ∷ ry .others) (from-drawn W (0 ∷ ry .others) (ry .drawn) 0 g) (from-drawn W (0 ∷ ry .others) (ry .drawn) g (j + 1)))
+  unfolding ry
+  all-can = idle-can (c .walk) ry (c .room) (drawn-both W (ranges-from W 0 g) (ranges-from W g (j + 1)) (0 ∷ ry .others) (from-drawn W (0 ∷ ry .others) (ry .drawn) 0 g) (from-drawn W (0 ∷ ry .others) (ry .drawn) g (j + 1)))
 
   start : At B 0 0 0 []
-  start = start-at (laid-after h (lc .rest)) z
+  start = idle-at (c .walk)
 
   pub goal-can : CanTellAll W B (ranges-from W 0 g) 0 0 0
   goal-can = env-can W B (ranges-from W 0 g) (ranges-from W g (j + 1)) all-can start
 
-  out-start : Outside 0 401408 L B
-  out-start = outside-then (outside-wide 0 401408 (omega arith) (omega arith) (lc .rest)) (outside-wide 0 401408 (omega arith) (omega arith) (z .rest))
+  wide : {X Y : List ℕ} → Zeroed 16384 212992 X Y → Outside 0 335872 X Y
+  wide z = outside-wide 0 335872 (omega arith) (omega arith) (z .rest)
 
-  out-then : {X Y : List ℕ} → Outside 0 401408 L X → Outside 0 335872 X Y → Outside 0 401408 L Y
-  out-then p q = outside-then p (outside-wide 0 401408 (omega arith) (omega arith) q)
+  pub goal-laid : (Y : List ℕ) (r : Around) → ToldAll W B (ranges-from W 0 g) 0 0 0 Y r → Laid Y
+  goal-laid Y r t = laid-after (c .walk .laid) (t .rest)
 
   -- nothing satisfies the environment
-  pub goal-hopeless : (Y : List ℕ) (r : Around) → r ≡ Failed → ToldAll W B (ranges-from W 0 g) 0 0 0 Y r → QuietIn W g j true × Laid Y × Outside 0 401408 L Y
-  goal-hopeless Y r e t =
+  pub goal-hopeless : (Y Z : List ℕ) (r : Around) → r ≡ Failed → ToldAll W B (ranges-from W 0 g) 0 0 0 Y r → Zeroed 16384 212992 Y Z → Said W B g j true Z
+  goal-hopeless Y Z r e t z =
       let p : NoneOf W B (ranges-from W 0 g) 0 0 0 = subst (ToldAll W B (ranges-from W 0 g) 0 0 0 Y) e t .answer in
-      let o : Outside 0 401408 L Y = out-then out-start (t .rest) in
-      (record { right = λ lab d fr ρ s. absurd (p .none [] start lab d (ρ, s)) }, laid-after h o, o)
+      (record { right = λ lab d fr ρ s. absurd (p .none [] start lab d (ρ, s)) }, start-at (goal-laid Y r t) z .walk, outside-then (t .rest) (wide z))
 
   module _ (Y : List ℕ) (u n a : ℕ) (r : Around) (er : r ≡ All u n a) (t : ToldAll W B (ranges-from W 0 g) 0 0 0 Y r) where
     outer : AllOf W B (ranges-from W 0 g) 0 0 0 Y u n a
@@ -51,15 +65,14 @@ module _ (W : List Word) (L A B : List ℕ) (g j : ℕ) (h : Laid L) (ry : Roomy
     pub stores-can : CanTellAll W Y (ranges-from W g (j + 1)) u n a
     stores-can = inner-can W B (ranges-from W 0 g) (ranges-from W g (j + 1)) all-can start Y u n a outer
 
-    out-outer : Outside 0 401408 L Y
-    out-outer = out-then out-start (t .rest)
+    pub stores-laid : (Z : List ℕ) (k : Around) → ToldAll W Y (ranges-from W g (j + 1)) u n a Z k → Laid Z
+    stores-laid Z k v = laid-after (goal-laid Y r t) (v .rest)
 
     -- the stores have no solution with it
-    pub stores-hopeless : (Z : List ℕ) (k : Around) → k ≡ Failed → ToldAll W Y (ranges-from W g (j + 1)) u n a Z k → QuietIn W g j false × Laid Z × Outside 0 401408 L Z
-    stores-hopeless Z k e v =
+    pub stores-hopeless : (Z X : List ℕ) (k : Around) → k ≡ Failed → ToldAll W Y (ranges-from W g (j + 1)) u n a Z k → Zeroed 16384 212992 Z X → Said W B g j false X
+    stores-hopeless Z X k e v z =
         let p : NoneOf W Y (ranges-from W g (j + 1)) u n a = subst (ToldAll W Y (ranges-from W g (j + 1)) u n a Z) e v .answer in
-        let o : Outside 0 401408 L Z = out-then out-outer (v .rest) in
-        (record { right = λ lab d fr. inner-none W B (ranges-from W 0 g) (ranges-from W g (j + 1)) all-can start Y u n a outer (locals-at W g) p lab d fr }, laid-after h o, o)
+        (record { right = λ lab d fr. inner-none W B (ranges-from W 0 g) (ranges-from W g (j + 1)) all-can start Y u n a outer (locals-at W g) p lab d fr }, start-at (stores-laid Z k v) z .walk, outside-then (t .rest) (outside-then (v .rest) (wide z)))
 
     module _ (Z : List ℕ) (v m b : ℕ) (k : Around) (ek : k ≡ All v m b) (y : ToldAll W Y (ranges-from W g (j + 1)) u n a Z k) where
       inner : AllOf W Y (ranges-from W g (j + 1)) u n a Z v m b
@@ -69,22 +82,39 @@ module _ (W : List Word) (L A B : List ℕ) (g j : ℕ) (h : Laid L) (ry : Roomy
       stores-quiet = can-quiet W B (ranges-from W 0 g) (ranges-from W g (j + 1)) all-can start Y u n a outer Z v m b inner
 
       marking : Marking (localsOf Z) (locals-at W g)
-      unfolding localsOf
-      marking = subst (λ (l : List ℕ). Marking l (locals-at W g)) (sym (cut-right 335872 401408 (omega arith) (y .rest) ∙ cut-right 335872 401408 (omega arith) (t .rest) ∙ cut-right 335872 401408 (omega arith) (z .rest))) (lc .marks)
+      marking = marks-kept (locals-at W g) (outside-then (t .rest) (y .rest)) (c .marks)
 
-      module _ (X : List ℕ) (o : Calm) (q : Calmed (logOf v Z) (localsOf Z) (posOf Z) (cellsOf Z) (varsOf Z) (oldsOf Z) m b n o) (tr : Tried Z X) where
-        out-all : Outside 0 401408 L X
-        out-all = out-then (out-then out-outer (y .rest)) (outside-wide 0 335872 (omega arith) (omega arith) tr)
+      module _ (X : List ℕ) (o : Calm) (q : Calmed (logOf v Z) (localsOf Z) (posOf Z) (cellsOf Z) (varsOf Z) (oldsOf Z) m b n o) (kp : Kept (cellsOf Z) (varsOf Z) (oldsOf Z) m (cellsOf X) (varsOf X) (oldsOf X)) (tr : Tried Z X) where
+        pub stores-return : Returns X m []
+        stores-return = inner-returns W B (ranges-from W 0 g) (ranges-from W g (j + 1)) all-can start Y u n a outer Z v m b inner X kp tr
 
-        calmed-as : (o′ : Calm) → o ≡ o′ → Calmed (logOf v Z) (localsOf Z) (posOf Z) (cellsOf Z) (varsOf Z) (oldsOf Z) m b n o′
-        calmed-as o′ e = subst (Calmed (logOf v Z) (localsOf Z) (posOf Z) (cellsOf Z) (varsOf Z) (oldsOf Z) m b n) e q
+        module _ (E : List ℕ) (bk : BackIn X m 0 E) where
+          out-all : Outside 0 335872 B E
+          out-all = outside-then (outside-then (t .rest) (y .rest)) (outside-then (outside-wide 0 335872 (omega arith) (omega arith) tr) (outside-wide 0 335872 (omega arith) (omega arith) (bk .rest)))
 
-        pub stores-silent : o ≡ Silent → QuietIn W g j true × Laid X × Outside 0 401408 L X
-        stores-silent e = (record { right = λ lab d fr. inner-silent W B (ranges-from W 0 g) (ranges-from W g (j + 1)) all-can start Y u n a outer Z v m b inner (locals-at W g) marking (calmed-as Silent e) lab fr }, laid-after h out-all, out-all)
+          begun : Walk E []
+          begun = walk-back [] X E m stores-return bk
 
-        pub stores-loud : o ≡ Loudly → QuietIn W g j false × Laid X × Outside 0 401408 L X
-        stores-loud e = (record { right = λ lab d fr. inner-loud W B (ranges-from W 0 g) (ranges-from W g (j + 1)) all-can start Y u n a outer Z v m b inner (locals-at W g) marking (calmed-as Loudly e) lab fr }, laid-after h out-all, out-all)
+          calmed-as : (o′ : Calm) → o ≡ o′ → Calmed (logOf v Z) (localsOf Z) (posOf Z) (cellsOf Z) (varsOf Z) (oldsOf Z) m b n o′
+          calmed-as o′ e = subst (Calmed (logOf v Z) (localsOf Z) (posOf Z) (cellsOf Z) (varsOf Z) (oldsOf Z) m b n) e q
 
-        -- there is room
-        pub stores-room : o ≡ NoSpace → QuietIn W g j false × Laid X × Outside 0 401408 L X
-        stores-room e = absurd (inner-room W B (ranges-from W 0 g) (ranges-from W g (j + 1)) all-can start Y u n a outer Z v m b inner (calmed-as NoSpace e))
+          pub stores-silent : o ≡ Silent → Said W B g j true E
+          stores-silent e = (record { right = λ lab d fr. inner-silent W B (ranges-from W 0 g) (ranges-from W g (j + 1)) all-can start Y u n a outer Z v m b inner (locals-at W g) marking (calmed-as Silent e) lab fr }, begun, out-all)
+
+          pub stores-loud : o ≡ Loudly → Said W B g j false E
+          stores-loud e = (record { right = λ lab d fr. inner-loud W B (ranges-from W 0 g) (ranges-from W g (j + 1)) all-can start Y u n a outer Z v m b inner (locals-at W g) marking (calmed-as Loudly e) lab fr }, begun, out-all)
+
+          -- there is room
+          pub stores-room : o ≡ NoSpace → Said W B g j false E
+          stores-room e = absurd (inner-room W B (ranges-from W 0 g) (ranges-from W g (j + 1)) all-can start Y u n a outer Z v m b inner (calmed-as NoSpace e))
+
+-- the locals inside the goal are marked before, and unmarked afterwards
+pub can-marked : {W : List Word} {L A : List ℕ} {g j : ℕ} → Idle L → Given L (locals-at W g) 1 A → Roomy W → (g ≤ j) × (j < length W) → RoomFor W (ranges-from W 0 g ++ ranges-from W g (j + 1)) → CanQuiet W A g j
+can-marked i v r o m = record { walk = walk-beside [] _ _ 401408 (i .walk) (v .rest); marks = marked-now v (i .unmarked); roomy = r; order = o .0; low = o .1; room = m }
+
+pub quiet-idle : {W : List Word} {L A X Y : List ℕ} {g j : ℕ} {r : Bool} → Idle L → Given L (locals-at W g) 1 A → Said W A g j r X → Given X (locals-at W g) 0 Y → QuietIn W g j r × Idle Y × Outside 0 401408 L Y
+quiet-idle {W} {L} {A} {X} {Y} {g} i v s z = (
+  s .0,
+  record { walk = walk-beside [] _ _ 401408 (s .1) (z .rest); unmarked = unmarked-now z (marks-kept (locals-at W g) (s .2) (marked-now v (i .unmarked))) },
+  outside-then (outside-wide 0 401408 (omega arith) (omega arith) (v .rest)) (outside-then (outside-wide 0 401408 (omega arith) (omega arith) (s .2)) (outside-wide 0 401408 (omega arith) (omega arith) (z .rest))),
+)

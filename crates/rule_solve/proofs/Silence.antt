@@ -7,11 +7,12 @@ use Rattle.constraint.specs.Constraint.{Store, Satisfiable, Quiet, Fresh}
 use Rattle.mem_words.specs.declared.Word.{Word}
 use Rattle.solve_fields.specs.Read.{Distinct}
 use Rattle.solve_tells.specs.Draws.{Drawn}
-use Rattle.solve_quiet.specs.Solver.{Marking, CanCalm, Calmed}
+use Rattle.solve_quiet.specs.Solver.{Marking, CanCalm, Calmed, Kept}
 use Rattle.solve_quiet.specs.declared.Calm.{Calm}
 use Rattle.solve_quiet.specs.declared.Calm.the-variants.{Silent, Loudly, NoSpace}
-use Rattle.work_tables.specs.Tables.{cellsOf, varsOf, oldsOf, posOf, logOf, marksOf, stackOf, donesOf, localsOf, Laid, Logged}
-use Rattle.work_marks.specs.Marks.{Mark, trailAt, appsAt, usedAt, allTold}
+use Rattle.work_tables.specs.Tables.{cellsOf, varsOf, oldsOf, posOf, logOf, marksOf, stackOf, donesOf, localsOf, Laid, Logged, Tried}
+use Rattle.work_marks.specs.Marks.{Mark, trailAt, appsAt, usedAt, allTold, Returns}
+use Rattle.work_marks.proofs.Walking.{walk-kept}
 use Rattle.work_marks.proofs.Verdicts.{walk-can-calm, walk-silent, walk-loud, none-loud}
 use Rattle.work_marks.proofs.Rooms.{quiet-never}
 use Rattle.work_enter.specs.Enters.{At}
@@ -20,6 +21,7 @@ use Rattle.rule_ranges.proofs.Drawing.{drawn-left, drawn-right}
 use Rattle.rule_tells.specs.Telling.{CanTellAll, Onward, AllOf, NoneOf}
 use Rattle.rule_tells.proofs.Adding.{told-none, can-middle}
 use Rattle.rule_solve.proofs.Starts.{env-told, env-satisfied}
+use Rattle.rule_solve.proofs.Idling.{at-returns}
 
 module _ (W : List Word) (B : List ℕ) (es qs : List Range) (c : CanTellAll W B (es ++ qs) 0 0 0) (start : At B 0 0 0 []) where
   pub env-can : CanTellAll W B es 0 0 0
@@ -92,3 +94,15 @@ module _ (W : List Word) (B : List ℕ) (es qs : List Range) (c : CanTellAll W B
       inner-room k =
           let d = c .drawn in let l = c .logged in
           quiet-never (since ++ before) Z (trailAt before) (c .others) (inner .at .walk) (subst (λ (i : ℕ). Drawn (logOf i Z) (0 ∷ c .others)) (sym (inner .at .isUsed)) (q .drawn (0 ∷ c .others) (p .drawn (0 ∷ c .others) l (drawn-left W es qs (0 ∷ c .others) d)) (drawn-right W es qs (0 ∷ c .others) d))) (c .trail) (calmed-at NoSpace k)
+
+      -- after it all can be taken back
+      pub inner-returns : (X : List ℕ) → Kept (cellsOf Z) (varsOf Z) (oldsOf Z) m (cellsOf X) (varsOf X) (oldsOf X) → Tried Z X → Returns X m []
+      unfolding since
+      inner-returns X k t =
+          let p = inner .at in
+          at-returns (since ++ before) X v m b (record {
+            walk = walk-kept (since ++ before) Z X (p .walk) (subst (λ (i : ℕ). Kept (cellsOf Z) (varsOf Z) (oldsOf Z) i (cellsOf X) (varsOf X) (oldsOf X)) (sym (p .isTrail)) k) t;
+            isUsed = p .isUsed;
+            isTrail = p .isTrail;
+            isApps = p .isApps;
+          })

@@ -1,36 +1,50 @@
-// The solver asked of the stores around a position of a configuration. The tables of the working slice are made anew.
-ghost use mathlib.Core.List.{_++_};
+// The solver asked of the stores around a position of a configuration. Between two questions nothing is told and no variable is marked,
+// so that a question costs what it tells and not what the tables hold.
+ghost use mathlib.Core.List.{[], _++_};
 ghost use Prim.Native.Nat.{_+_, _<_, _≤_};
 ghost use lib.ListN.{length};
 ghost use Rattle.mem_words.specs.Words.{words};
 ghost use Rattle.mem_parts.specs.Parts.{Outside};
 ghost use Rattle.work_tables.specs.Tables.{Laid};
+ghost use Rattle.work_marks.specs.Marks.{Walk};
 ghost use Rattle.rule_ranges.specs.Ranges.{ranges-from};
 ghost use Rattle.rule_ranges.specs.Asked.{Roomy, RoomFor, SatIn, QuietIn};
+ghost use Rattle.rule_solve.specs.Idle.{Idle, CanQuiet};
 use rule_tells::Around;
 use solve_quiet::Calm;
 
+// Makes the tables those of a beginning, whatever they held.
+pub fn ready(w: &mut [u8])
+    requires { ⌜ Laid (now w) ⌝ }
+    ensures { λ _. ⌜ Idle (now (w .exit)) × Outside 0 401408 (now (w .entry)) (now (w .exit)) ⌝ }
+{
+    mem_parts::zero(w, 16384, 212992); // cells
+    mem_parts::zero(w, 335872, 401408); // marks of locals
+}
+
 // Whether the store of the and-box at `j` and its environment have a solution.
 pub fn sat_at(t: &[u8], w: &mut [u8], j: usize) -> bool
-    requires { ⌜ Laid (now w) × Roomy (words (now t)) × (j < length (words (now t))) × RoomFor (words (now t)) (ranges-from (words (now t)) 0 (j + 1)) ⌝ }
-    ensures { λ r. ⌜ SatIn (words (now (t .entry))) j r × Laid (now (w .exit)) × Outside 0 401408 (now (w .entry)) (now (w .exit)) ⌝ }
+    requires { ⌜ Idle (now w) × Roomy (words (now t)) × (j < length (words (now t))) × RoomFor (words (now t)) (ranges-from (words (now t)) 0 (j + 1)) ⌝ }
+    ensures { λ r. ⌜ SatIn (words (now (t .entry))) j r × Idle (now (w .exit)) × Outside 0 401408 (now (w .entry)) (now (w .exit)) ⌝ }
 {
-    mem_parts::zero(w, 16384, 212992);
     let r = rule_tells::tell_from(t, w, 0, j + 1, 0, 0, 0);
     match r {
-        Around::All(_u, _n, _a) => true,
-        Around::Failed => false, // they have none
+        Around::All(_u, n, _a) => {
+            work_ranges::back(w, n, 0);
+            true
+        }
+        Around::Failed => {
+            mem_parts::zero(w, 16384, 212992);
+            false // they have none
+        }
     }
 }
 
-// Whether the stores from the goal at `g` down to the and-box at `j` are quiet, with all locals inside the goal, for the goal's
-// environment.
-pub fn quiet_at(t: &[u8], w: &mut [u8], g: usize, j: usize) -> bool
-    requires { ⌜ Laid (now w) × Roomy (words (now t)) × (g ≤ j) × (j < length (words (now t))) × RoomFor (words (now t)) (ranges-from (words (now t)) 0 g ++ ranges-from (words (now t)) g (j + 1)) ⌝ }
-    ensures { λ r. ⌜ QuietIn (words (now (t .entry))) g j r × Laid (now (w .exit)) × Outside 0 401408 (now (w .entry)) (now (w .exit)) ⌝ }
+// As `quiet_at`, with the locals inside the goal marked.
+fn quiet_marked(t: &[u8], w: &mut [u8], g: usize, j: usize) -> bool
+    requires { ⌜ CanQuiet (words (now t)) (now w) g j ⌝ }
+    ensures { λ r. ⌜ QuietIn (words (now (t .entry))) g j r × Walk (now (w .exit)) [] × Outside 0 335872 (now (w .entry)) (now (w .exit)) ⌝ }
 {
-    rule_locals::mark_inside(t, w, g);
-    mem_parts::zero(w, 16384, 212992);
     let r = rule_tells::tell_from(t, w, 0, g, 0, 0, 0);
     match r {
         Around::All(u, n, a) => {
@@ -38,15 +52,34 @@ pub fn quiet_at(t: &[u8], w: &mut [u8], g: usize, j: usize) -> bool
             match q {
                 Around::All(v, m, b) => {
                     let c = work_quiet::quiet(w, v, m, b, n);
+                    work_ranges::back(w, m, 0);
                     match c {
                         Calm::Silent => true,
                         Calm::Loudly => false,
                         Calm::NoSpace => false,
                     }
                 }
-                Around::Failed => false, // the environment has a solution
+                Around::Failed => {
+                    mem_parts::zero(w, 16384, 212992);
+                    false // the environment has a solution
+                }
             }
         }
-        Around::Failed => true, // nothing satisfies the environment
+        Around::Failed => {
+            mem_parts::zero(w, 16384, 212992);
+            true // nothing satisfies the environment
+        }
     }
+}
+
+// Whether the stores from the goal at `g` down to the and-box at `j` are quiet, with all locals inside the goal, for the goal's
+// environment.
+pub fn quiet_at(t: &[u8], w: &mut [u8], g: usize, j: usize) -> bool
+    requires { ⌜ Idle (now w) × Roomy (words (now t)) × (g ≤ j) × (j < length (words (now t))) × RoomFor (words (now t)) (ranges-from (words (now t)) 0 g ++ ranges-from (words (now t)) g (j + 1)) ⌝ }
+    ensures { λ r. ⌜ QuietIn (words (now (t .entry))) g j r × Idle (now (w .exit)) × Outside 0 401408 (now (w .entry)) (now (w .exit)) ⌝ }
+{
+    rule_locals::give_inside(t, w, g, 1);
+    let r = quiet_marked(t, w, g, j);
+    rule_locals::give_inside(t, w, g, 0);
+    r
 }

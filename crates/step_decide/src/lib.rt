@@ -5,7 +5,7 @@ ghost use lib.ListN.{length};
 ghost use Rattle.akl.specs.Table.{rule-row};
 ghost use Rattle.mem_words.specs.Words.{words};
 ghost use Rattle.store_words.specs.Contexts.{place-at};
-ghost use Rattle.work_tables.specs.Tables.{Laid};
+ghost use Rattle.rule_solve.specs.Idle.{Idle};
 ghost use Rattle.step_meant.specs.Deciding.{step-of};
 ghost use Rattle.step_decide.specs.Decided.{row-takes, argument-there, CanDecide, CanTake, AsksStable, HasCondition, Decided};
 use read_steps::Place;
@@ -47,8 +47,8 @@ fn argument_fits(t: &[u8], r: usize, a: usize) -> bool
 
 // Whether the argument of rule 12 is the place of a stable goal that is or holds the box of what stands at `i`.
 fn argument_stable(t: &[u8], d: &[u8], w: &mut [u8], r: usize, a: usize, i: usize) -> bool
-    requires { ⌜ Laid (now w) × CanTake (words (now t)) (words (now d)) r a i ⌝ }
-    ensures { λ b. ⌜ AsksStable (words (now (t .entry))) (words (now (d .entry))) r a i b × Laid (now (w .exit)) ⌝ }
+    requires { ⌜ Idle (now w) × CanTake (words (now t)) (words (now d)) r a i ⌝ }
+    ensures { λ b. ⌜ AsksStable (words (now (t .entry))) (words (now (d .entry))) r a i b × Idle (now (w .exit)) ⌝ }
 {
     if r != 12 {
         return true;
@@ -62,8 +62,8 @@ fn argument_stable(t: &[u8], d: &[u8], w: &mut [u8], r: usize, a: usize, i: usiz
 
 // Whether the rule applies at `i` with that argument.
 fn has_condition(t: &[u8], d: &[u8], w: &mut [u8], r: usize, a: usize, i: usize) -> bool
-    requires { ⌜ Laid (now w) × CanTake (words (now t)) (words (now d)) r a i ⌝ }
-    ensures { λ b. ⌜ HasCondition (words (now (t .entry))) (words (now (d .entry))) r a i b × Laid (now (w .exit)) ⌝ }
+    requires { ⌜ Idle (now w) × CanTake (words (now t)) (words (now d)) r a i ⌝ }
+    ensures { λ b. ⌜ HasCondition (words (now (t .entry))) (words (now (d .entry))) r a i b × Idle (now (w .exit)) ⌝ }
 {
     if !step_applies::applies(t, d, w, r, i) {
         return false;
@@ -73,8 +73,8 @@ fn has_condition(t: &[u8], d: &[u8], w: &mut [u8], r: usize, a: usize, i: usize)
 
 // Rule `r` at the place `p` with the argument `a`, on a configuration's words `t` and a program's words `d`.
 pub fn decide(t: &[u8], d: &[u8], w: &mut [u8], r: usize, p: Place, a: usize) -> Decision
-    requires { ⌜ Laid (now w) × CanDecide (words (now t)) (words (now d)) ⌝ }
-    ensures { λ x. ⌜ Decided (words (now (t .entry))) (words (now (d .entry))) (step-of r (p .0) a) x × Laid (now (w .exit)) ⌝ }
+    requires { ⌜ Idle (now w) × CanDecide (words (now t)) (words (now d)) ⌝ }
+    ensures { λ x. ⌜ Decided (words (now (t .entry))) (words (now (d .entry))) (step-of r (p .0) a) x × Idle (now (w .exit)) ⌝ }
 {
     let n = kind_taken(r);
     if n == 10 {

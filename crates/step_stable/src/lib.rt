@@ -2,7 +2,7 @@
 ghost use Prim.Native.Nat.{_<_, _≤_};
 ghost use lib.ListN.{length};
 ghost use Rattle.mem_words.specs.Words.{words};
-ghost use Rattle.work_tables.specs.Tables.{Laid};
+ghost use Rattle.rule_solve.specs.Idle.{Idle};
 ghost use Rattle.rule_effects.specs.Effects.{behind};
 ghost use Rattle.step_meant.specs.Asked.{CanAsk, IsStable};
 ghost use Rattle.step_stable.specs.Calm.{OwnPlace, PlacesRest};
@@ -10,8 +10,8 @@ use mem_sorts::Kind;
 
 // Whether there is unrest at the goal's own place; and-boxes are left to the walk over them.
 fn goal_stirs(t: &[u8], d: &[u8], w: &mut [u8], g: usize) -> bool
-    requires { ⌜ Laid (now w) × CanAsk (words (now t)) (words (now d)) g ⌝ }
-    ensures { λ r. ⌜ OwnPlace (words (now (t .entry))) (words (now (d .entry))) g r × Laid (now (w .exit)) ⌝ }
+    requires { ⌜ Idle (now w) × CanAsk (words (now t)) (words (now d)) g ⌝ }
+    ensures { λ r. ⌜ OwnPlace (words (now (t .entry))) (words (now (d .entry))) g r × Idle (now (w .exit)) ⌝ }
 {
     if rule_shapes::is_kind(t, g, Kind::And) {
         return false; // an and-box
@@ -37,16 +37,19 @@ fn places_rest(t: &[u8], g: usize) -> bool
 
 // Whether the goal at `g` of the configuration `t` is stable; `d` has the program's words. What is cheap is asked first.
 pub fn stable(t: &[u8], d: &[u8], w: &mut [u8], g: usize) -> bool
-    requires { ⌜ Laid (now w) × CanAsk (words (now t)) (words (now d)) g ⌝ }
-    ensures { λ r. ⌜ IsStable (words (now (t .entry))) (words (now (d .entry))) g r × Laid (now (w .exit)) ⌝ }
+    requires { ⌜ Idle (now w) × CanAsk (words (now t)) (words (now d)) g ⌝ }
+    ensures { λ r. ⌜ IsStable (words (now (t .entry))) (words (now (d .entry))) g r × Idle (now (w .exit)) ⌝ }
 {
     if goal_stirs(t, d, w, g) {
         return false; // the goal itself
     }
     if places_rest(t, g) {
         if step_walk::calm(t, w, g) {
-            return step_guards::guards_rest(t, w, g); // guards that must be quiet
+            let r = step_guards::guards_rest(t, w, g); // guards that must be quiet
+            rule_solve::ready(w);
+            return r;
         }
+        rule_solve::ready(w);
         return false; // an and-box is not calm
     }
     false // another place

@@ -2,12 +2,12 @@
 ghost use Prim.Native.Nat.{_+_, _*_, _≤_};
 ghost use lib.ListN.{length};
 ghost use Rattle.mem_words.specs.Words.{words};
-ghost use Rattle.mem_parts.specs.Parts.{cut};
+ghost use Rattle.mem_parts.specs.Parts.{cut, Outside};
 ghost use Rattle.store_commit.specs.Settled.{CanSettle, Settled};
 ghost use Rattle.rule_build.specs.Built.{Built};
 ghost use Rattle.rule_hidden.specs.Counting.{Capped};
 ghost use Rattle.rule_rewrite.specs.Rewriting.{effect-words, fresh-words};
-ghost use Rattle.work_tables.specs.Tables.{Laid};
+ghost use Rattle.rule_solve.specs.Idle.{Idle};
 ghost use Rattle.step_meant.specs.Deciding.{step-of, StepDone, HoldsState};
 ghost use Rattle.step_decide.specs.Decided.{Decided};
 ghost use Rattle.step_store.specs.Regions.{config-part, program-part, Counts, CanRewrite, WasBuilt};
@@ -16,8 +16,8 @@ use step_decide::Decision;
 
 // What is decided of the step, on the regions of the store.
 fn decision(b: &[u8], w: &mut [u8], n: usize, m: usize, r: usize, p: Place, a: usize) -> Decision
-    requires { ⌜ Laid (now w) × Counts (now b) n m ⌝ }
-    ensures { λ x. ⌜ Decided (config-part (now (b .entry)) n) (program-part (now (b .entry)) m) (step-of r (p .0) a) x × Laid (now (w .exit)) ⌝ }
+    requires { ⌜ Idle (now w) × Counts (now b) n m ⌝ }
+    ensures { λ x. ⌜ Decided (config-part (now (b .entry)) n) (program-part (now (b .entry)) m) (step-of r (p .0) a) x × Idle (now (w .exit)) ⌝ }
 {
     let e = 184413 + 3 * n;
     let f = 61485 + 3 * m;
@@ -46,15 +46,15 @@ fn rewrite_in(
     hi: usize,
 ) -> usize
     requires { ⌜ CanRewrite (words (now t)) r i next × (lo ≤ hi) × (hi ≤ length (now w)) ⌝ }
-    ensures { λ x. ⌜ Built (length (words (cut lo hi (now (w .entry))))) (effect-words (words (now (t .entry))) (words (now (d .entry))) r i next) x (words (cut lo hi (now (w .exit)))) ⌝ }
+    ensures { λ x. ⌜ Built (length (words (cut lo hi (now (w .entry))))) (effect-words (words (now (t .entry))) (words (now (d .entry))) r i next) x (words (cut lo hi (now (w .exit)))) × Outside lo hi (now (w .entry)) (now (w .exit)) ⌝ }
 {
     rule_rewrite::rewrite(t, d, r, i, next, &mut w[lo..hi])
 }
 
 // Builds the next configuration in the working slice.
 fn build(b: &[u8], w: &mut [u8], n: usize, m: usize, next: usize, r: usize, i: usize) -> usize
-    requires { ⌜ Laid (now w) × Counts (now b) n m × CanRewrite (config-part (now b) n) r i next ⌝ }
-    ensures { λ x. ⌜ WasBuilt (now (b .entry)) n m next r i x (now (w .exit)) × Laid (now (w .exit)) ⌝ }
+    requires { ⌜ Idle (now w) × Counts (now b) n m × CanRewrite (config-part (now b) n) r i next ⌝ }
+    ensures { λ x. ⌜ WasBuilt (now (b .entry)) n m next r i x (now (w .exit)) × Idle (now (w .exit)) ⌝ }
 {
     let e = 184413 + 3 * n;
     let f = 61485 + 3 * m;
@@ -80,8 +80,8 @@ fn settle_from(
 
 // Rule `r` at the place `p` with the argument `a`. Answers the refusal, 10 to 15; or 0, and `b` is the store after the step.
 pub fn step(b: &mut [u8], w: &mut [u8], r: usize, p: Place, a: usize) -> usize
-    requires { ⌜ (270429 ≤ length (now b)) × Laid (now w) × HoldsState (now b) ⌝ }
-    ensures { λ x. ⌜ StepDone (now (b .entry)) (step-of r (p .0) a) x (now (b .exit)) × Laid (now (w .exit)) ⌝ }
+    requires { ⌜ (270429 ≤ length (now b)) × Idle (now w) × HoldsState (now b) ⌝ }
+    ensures { λ x. ⌜ StepDone (now (b .entry)) (step-of r (p .0) a) x (now (b .exit)) × Idle (now (w .exit)) ⌝ }
 {
     let n = store_views::config_count(b);
     let m = store_views::program_count(b);

@@ -4,7 +4,7 @@ ghost use mathlib.Core.Path.{_≡_};
 ghost use Prim.Native.Nat.{_<_, _≤_};
 ghost use lib.ListN.{length};
 ghost use Rattle.mem_words.specs.Words.{words};
-ghost use Rattle.work_tables.specs.Tables.{Laid};
+ghost use Rattle.rule_solve.specs.Idle.{Idle};
 ghost use Rattle.rule_effects.specs.Effects.{behind};
 ghost use Rattle.rule_kinds.specs.Kinds.{takes-in};
 ghost use Rattle.rule_applies.specs.Asking.{asks-6, asks-in};
@@ -18,8 +18,8 @@ use rule_table::Row;
 // Whether the rule of number `r` is determinate, takes what is at `j`, a place of the kind `k`, rewrites the goal at `g` or something
 // inside it, and applies.
 fn disturbed_by(t: &[u8], d: &[u8], w: &mut [u8], g: usize, j: usize, k: usize, r: usize) -> bool
-    requires { ⌜ Laid (now w) × CanPlace (words (now t)) (words (now d)) g j × (k ≡ takes-in (words (now t)) j) ⌝ }
-    ensures { λ b. ⌜ DisturbsAt (words (now (t .entry))) (words (now (d .entry))) g j r b × Laid (now (w .exit)) ⌝ }
+    requires { ⌜ Idle (now w) × CanPlace (words (now t)) (words (now d)) g j × (k ≡ takes-in (words (now t)) j) ⌝ }
+    ensures { λ b. ⌜ DisturbsAt (words (now (t .entry))) (words (now (d .entry))) g j r b × Idle (now (w .exit)) ⌝ }
 {
     let row = rule_table::row_of(r);
     match row {
@@ -42,8 +42,8 @@ fn disturbed_by(t: &[u8], d: &[u8], w: &mut [u8], g: usize, j: usize, k: usize, 
 
 // Whether one of the fourteen rules does.
 fn disturbed(t: &[u8], d: &[u8], w: &mut [u8], g: usize, j: usize, k: usize) -> bool
-    requires { ⌜ Laid (now w) × CanPlace (words (now t)) (words (now d)) g j × (k ≡ takes-in (words (now t)) j) ⌝ }
-    ensures { λ b. ⌜ Disturbed (words (now (t .entry))) (words (now (d .entry))) g j b × Laid (now (w .exit)) ⌝ }
+    requires { ⌜ Idle (now w) × CanPlace (words (now t)) (words (now d)) g j × (k ≡ takes-in (words (now t)) j) ⌝ }
+    ensures { λ b. ⌜ Disturbed (words (now (t .entry))) (words (now (d .entry))) g j b × Idle (now (w .exit)) ⌝ }
 {
     let mut r = 1;
     while r < 15 { // each of the fourteen
@@ -58,8 +58,8 @@ fn disturbed(t: &[u8], d: &[u8], w: &mut [u8], g: usize, j: usize, k: usize) -> 
 // Whether there is unrest at `j`, a position at or inside the goal at `g` of the configuration in `t`, whose program is in `d`, where no
 // and-box begins. There is none where no place begins.
 pub fn unrest_at(t: &[u8], d: &[u8], w: &mut [u8], g: usize, j: usize) -> bool
-    requires { ⌜ Laid (now w) × CanAsk (words (now t)) (words (now d)) g × (g ≤ j) × (j < behind (words (now t)) g) × (takes-in (words (now t)) j ≡ 7 → ⊥) ⌝ }
-    ensures { λ b. ⌜ Unrest (words (now (t .entry))) (words (now (d .entry))) g j b × Laid (now (w .exit)) ⌝ }
+    requires { ⌜ Idle (now w) × CanAsk (words (now t)) (words (now d)) g × (g ≤ j) × (j < behind (words (now t)) g) × (takes-in (words (now t)) j ≡ 7 → ⊥) ⌝ }
+    ensures { λ b. ⌜ Unrest (words (now (t .entry))) (words (now (d .entry))) g j b × Idle (now (w .exit)) ⌝ }
 {
     let k = rule_kinds::kind(t, j);
     if k == 10 {

@@ -31,17 +31,20 @@ returns-2 c = before-working (c .before .before .before .before .before .before 
 formed-requires : tie.Need-formed-requires
 formed-requires c κs = record { store = omega arith; working = omega arith }
 
+ready-requires : tie.Need-ready-requires
+ready-requires c κs = record { long = omega (arith, c .before .before .before .before .formed .kept .1 .0) }
+
 tried-requires : tie.Need-tried-requires
-tried-requires c κs = can-run (c .before .before .before .before .before .before .before .before .before .before .before .before .before .before .before .before .args .steps .now) (c .before .before .before .before .before .before .before .before .before .before .before .before .before .before .before .before .args .store .now) (length (c .before .before .before .before .before .before .before .before .before .before .before .before .before .before .before .before .args .work .now)) _ (rw (c .before .before .before .before .before .before .before .before .before .before .enum-told .given .1) at (c .before .before .before .before .before .before .before .before .before .before .before .before .check .ensures)) _ (omega arith) (omega (arith, c .before .before .before .before .before .formed .kept .1 .0)) (c .before .before .before .before .before .formed .result) (c .before .before .if3 .taken) (c .before .before .before .before .before .formed .ensures)
+tried-requires c κs = can-run (c .before .before .before .before .before .before .before .before .before .before .before .before .before .before .before .before .before .before .before .before .args .steps .now) (c .before .before .before .before .before .before .before .before .before .before .before .before .before .before .before .before .before .before .before .before .args .store .now) (length (c .before .before .before .before .before .before .before .before .before .before .before .before .before .before .before .before .before .before .before .before .args .work .now)) _ (rw (c .before .before .before .before .before .before .before .before .before .before .before .before .before .before .enum-told .given .1) at (c .before .before .before .before .before .before .before .before .before .before .before .before .before .before .before .before .check .ensures)) _ (omega arith) (c .before .before .before .before .ready .ensures .0) (c .before .before .before .before .before .before .before .before .before .formed .result) (c .before .before .before .before .before .before .if3 .taken) (c .before .before .before .before .before .before .before .before .before .formed .ensures)
 
 same-length : tie.Need-same-length
 same-length c = c .before .before .before .before .tried .kept .1 .0
 
 same-length-2 : tie.Need-same-length-2
-same-length-2 c = c .before .before .before .before .tried .kept .1 .1 .0 ∙ c .before .before .before .before .before .before .before .before .before .before .formed .kept .1 .0
+same-length-2 c = c .before .before .before .before .tried .kept .1 .1 .0 ∙ c .before .before .before .before .before .before .before .before .before .ready .kept .0 ∙ c .before .before .before .before .before .before .before .before .before .before .before .before .before .before .formed .kept .1 .0
 
 returns-3 : tie.Need-returns-3
-returns-3 c = same-working (length (c .before .before .before .before .before .before .before .before .before .before .before .before .before .before .before .before .before .before .before .before .before .args .work .now)) (c .before .before .before .before .before .before .before .before .before .before .formed .kept .1 .0) (c .before .before .before .before .tried .ensures)
+returns-3 c = same-working (length (c .before .before .before .before .before .before .before .before .before .before .before .before .before .before .before .before .before .before .before .before .before .before .before .before .before .args .work .now)) (c .before .before .before .before .before .before .before .before .before .ready .kept .0 ∙ c .before .before .before .before .before .before .before .before .before .before .before .before .before .before .formed .kept .1 .0) (c .before .before .before .before .tried .ensures)
 
 returns-4 : tie.Need-returns-4
 returns-4 c = before-text (c .before .before .before .before .before .before .before .before .args .steps .now) (c .before .before .before .before .before .before .before .before .args .store .now) (length (c .before .before .before .before .before .before .before .before .args .work .now)) (c .before .before .f .given .0 .0) _ (c .number .ensures) (rw (c .before .before .f .given .1) at (c .before .before .before .before .check .ensures))
@@ -56,4 +59,4 @@ returns-5 : tie.Need-returns-5
 returns-5 c = before-held (c .before .before .before .before .before .before .before .before .before .before .before .before .before .before .args .steps .now) (c .before .before .before .before .before .before .before .before .before .before .before .before .before .before .args .store .now) (length (c .before .before .before .before .before .before .before .before .before .before .before .before .before .before .args .work .now)) _ (rw (c .before .before .before .before .before .before .before .before .enum-told .given .1) at (c .before .before .before .before .before .before .before .before .before .before .check .ensures)) (omega arith) (omega arith) (c .before .before .before .formed .result) (c .if3 .left) (c .before .before .before .formed .ensures)
 
 pub judged-spec : {M : Type 1} → statement M
-judged-spec = tie.close (tie.spec check-requires enum-known-f number-requires cast-result enum-told returns returns-2 formed-requires tried-requires same-length same-length-2 returns-3 returns-4 same-length-3 same-length-4 returns-5)
+judged-spec = tie.close (tie.spec check-requires enum-known-f number-requires cast-result enum-told returns returns-2 formed-requires ready-requires tried-requires same-length same-length-2 returns-3 returns-4 same-length-3 same-length-4 returns-5)

@@ -18,17 +18,20 @@ returns-2 c = short-working (c .before .before .before .before .args .store .now
 formed-requires : tie.Need-formed-requires
 formed-requires c κs = record { store = omega arith; working = omega arith }
 
+ready-requires : tie.Need-ready-requires
+ready-requires c κs = record { long = omega (arith, c .before .before .before .before .formed .kept .1 .0) }
+
 step-requires : tie.Need-step-requires
-step-requires c κs = (omega arith, record { long = omega (arith, c .before .before .before .before .before .formed .kept .1 .0) }, some-formed (c .before .before .before .before .before .before .before .before .before .before .before .before .args .store .now) (c .before .before .before .before .before .formed .result) (c .before .before .if3 .taken) (c .before .before .before .before .before .formed .ensures))
+step-requires c κs = (omega arith, c .before .before .before .before .ready .ensures .0, some-formed (c .before .before .before .before .before .before .before .before .before .before .before .before .before .before .before .before .args .store .now) (c .before .before .before .before .before .before .before .before .before .formed .result) (c .before .before .before .before .before .before .if3 .taken) (c .before .before .before .before .before .before .before .before .before .formed .ensures))
 
 same-length : tie.Need-same-length
 same-length c = c .before .before .before .before .step .kept .0
 
 same-length-2 : tie.Need-same-length-2
-same-length-2 c = c .before .before .before .before .step .kept .1 .0 ∙ c .before .before .before .before .before .before .before .before .before .before .formed .kept .1 .0
+same-length-2 c = c .before .before .before .before .step .kept .1 .0 ∙ c .before .before .before .before .before .before .before .before .before .ready .kept .0 ∙ c .before .before .before .before .before .before .before .before .before .before .before .before .before .before .formed .kept .1 .0
 
 returns-3 : tie.Need-returns-3
-returns-3 c = done (c .before .before .before .before .before .before .before .before .before .before .before .before .before .before .before .before .before .args .store .now) (length (c .before .before .before .before .before .before .before .before .before .before .before .before .before .before .before .before .before .args .work .now)) (step-of (c .before .before .before .before .before .before .before .before .before .before .before .before .before .before .before .before .before .args .rule) (c .before .before .before .before .before .before .before .before .before .before .before .before .before .before .before .before .before .args .place .0) (c .before .before .before .before .before .before .before .before .before .before .before .before .before .before .before .before .before .args .argument)) (omega arith) (omega arith) _ _ (some-formed (c .before .before .before .before .before .before .before .before .before .before .before .before .before .before .before .before .before .args .store .now) (c .before .before .before .before .before .before .before .before .before .before .formed .result) (c .before .before .before .before .before .before .before .if3 .taken) (c .before .before .before .before .before .before .before .before .before .before .formed .ensures)) (c .before .before .before .before .step .ensures .0)
+returns-3 c = done (c .before .before .before .before .before .before .before .before .before .before .before .before .before .before .before .before .before .before .before .before .before .args .store .now) (length (c .before .before .before .before .before .before .before .before .before .before .before .before .before .before .before .before .before .before .before .before .before .args .work .now)) (step-of (c .before .before .before .before .before .before .before .before .before .before .before .before .before .before .before .before .before .before .before .before .before .args .rule) (c .before .before .before .before .before .before .before .before .before .before .before .before .before .before .before .before .before .before .before .before .before .args .place .0) (c .before .before .before .before .before .before .before .before .before .before .before .before .before .before .before .before .before .before .before .before .before .args .argument)) (omega arith) (omega arith) _ _ (some-formed (c .before .before .before .before .before .before .before .before .before .before .before .before .before .before .before .before .before .before .before .before .before .args .store .now) (c .before .before .before .before .before .before .before .before .before .before .before .before .before .before .formed .result) (c .before .before .before .before .before .before .before .before .before .before .before .if3 .taken) (c .before .before .before .before .before .before .before .before .before .before .before .before .before .before .formed .ensures)) (c .before .before .before .before .step .ensures .0)
 
 same-length-3 : tie.Need-same-length-3
 same-length-3 c = refl
@@ -40,4 +43,4 @@ returns-4 : tie.Need-returns-4
 returns-4 c = not-held (c .before .before .before .before .before .before .before .before .before .before .args .store .now) (length (c .before .before .before .before .before .before .before .before .before .before .args .work .now)) (step-of (c .before .before .before .before .before .before .before .before .before .before .args .rule) (c .before .before .before .before .before .before .before .before .before .before .args .place .0) (c .before .before .before .before .before .before .before .before .before .before .args .argument)) (omega arith) (omega arith) (c .before .before .before .formed .result) (c .if3 .left) (c .before .before .before .formed .ensures)
 
 pub judged-spec : {M : Type 1} → statement M
-judged-spec = tie.close (tie.spec returns returns-2 formed-requires step-requires same-length same-length-2 returns-3 same-length-3 same-length-4 returns-4)
+judged-spec = tie.close (tie.spec returns returns-2 formed-requires ready-requires step-requires same-length same-length-2 returns-3 same-length-3 same-length-4 returns-4)

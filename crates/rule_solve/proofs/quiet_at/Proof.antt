@@ -1,80 +1,27 @@
--- The locals, the environment, the stores, and the test. Assumes nothing.
+-- The locals are marked, and unmarked. Assumes nothing.
 use mathlib.Core.Path.{_∙_}
 use native.Mathlib.Omega.{arith}
-use Rattle.mem_words.specs.Words.{words, length-words}
-use Rattle.rule_solve.proofs.Quieting.{goal-can, goal-hopeless, stores-can, stores-hopeless, stores-quiet, stores-silent, stores-loud, stores-room}
+use Rattle.mem_words.specs.Words.{words}
+use Rattle.work_tables.specs.Tables.{laid-after}
+use Rattle.rule_solve.proofs.Quieting.{can-marked, quiet-idle}
 use borrow.Author.Needs.{needs}
 use Rattle.rule_solve.proofs.quiet_at.Statement.{statement}
 use Rattle.rule_solve.proofs.quiet_at.Tie as tie
 
-mark-inside-requires : tie.Need-mark-inside-requires
-mark-inside-requires c κs = (c .before .before .before .pre .0, c .before .before .before .pre .1 .vars)
+give-inside-requires : tie.Need-give-inside-requires
+give-inside-requires c κs = (c .before .before .before .pre .0 .walk .laid, c .before .before .before .pre .1 .vars, omega arith)
 
-zero-requires : tie.Need-zero-requires
-zero-requires c κs = record { le = omega arith; fits = omega (arith, c .before .before .before .before .before .before .before .pre .0 .long, c .before .before .before .mark-inside .ensures .rest .long) }
+quiet-marked-requires : tie.Need-quiet-marked-requires
+quiet-marked-requires c κs = can-marked (c .before .before .before .before .before .before .before .pre .0) (c .before .before .before .give-inside .ensures) (c .before .before .before .before .before .before .before .pre .1) (c .before .before .before .before .before .before .before .pre .2, c .before .before .before .before .before .before .before .pre .3) (c .before .before .before .before .before .before .before .pre .4)
 
-tell-from-requires : tie.Need-tell-from-requires
-tell-from-requires c κs = (omega (arith, c .before .before .before .before .before .before .before .before .before .before .before .pre .2, c .before .before .before .before .before .before .before .before .before .before .before .pre .3), goal-can (words (c .before .before .before .before .before .before .before .before .before .before .before .args .t .now)) _ _ _ (c .before .before .before .before .before .before .before .before .before .before .before .args .g) (c .before .before .before .before .before .before .before .before .before .before .before .args .j) (c .before .before .before .before .before .before .before .before .before .before .before .pre .0) (c .before .before .before .before .before .before .before .before .before .before .before .pre .1) (c .before .before .before .before .before .before .before .before .before .before .before .pre .4) (c .before .before .before .before .before .before .before .mark-inside .ensures) (c .before .before .before .zero .ensures))
-
-enum-known-r : tie.Need-enum-known-r
-enum-known-r c = search needs
-
-add-tell-from : tie.Need-add-tell-from
-add-tell-from c = omega (arith, c .before .before .before .before .before .before .before .before .before .before .before .before .before .before .before .before .before .before .pre .3, length-words (c .before .before .before .before .before .before .before .before .before .before .before .before .before .before .before .before .before .before .args .t .now))
-
-tell-from-requires-2 : tie.Need-tell-from-requires-2
-tell-from-requires-2 c κs = (omega (arith, c .before .before .before .before .before .before .before .before .before .before .before .before .before .before .before .before .before .before .pre .3), stores-can (words (c .before .before .before .before .before .before .before .before .before .before .before .before .before .before .before .before .before .before .args .t .now)) _ _ _ (c .before .before .before .before .before .before .before .before .before .before .before .before .before .before .before .before .before .before .args .g) (c .before .before .before .before .before .before .before .before .before .before .before .before .before .before .before .before .before .before .args .j) (c .before .before .before .before .before .before .before .before .before .before .before .before .before .before .before .before .before .before .pre .0) (c .before .before .before .before .before .before .before .before .before .before .before .before .before .before .before .before .before .before .pre .1) (c .before .before .before .before .before .before .before .before .before .before .before .before .before .before .before .before .before .before .pre .4) (c .before .before .before .before .before .before .before .before .before .before .before .before .before .before .mark-inside .ensures) (c .before .before .before .before .before .before .before .before .before .before .zero .ensures) _ _ _ _ (c .before .before .before .before .before .before .tell-from .result) (c .before .before .r .given .1) (c .before .before .before .before .before .before .tell-from .ensures))
-
-enum-known-q : tie.Need-enum-known-q
-enum-known-q c = search needs
-
-quiet-requires : tie.Need-quiet-requires
-quiet-requires c κs = stores-quiet (words (c .before .before .before .before .before .before .before .before .before .before .before .before .before .before .before .before .before .before .before .before .before .before .before .before .before .args .t .now)) _ _ _ (c .before .before .before .before .before .before .before .before .before .before .before .before .before .before .before .before .before .before .before .before .before .before .before .before .before .args .g) (c .before .before .before .before .before .before .before .before .before .before .before .before .before .before .before .before .before .before .before .before .before .before .before .before .before .args .j) (c .before .before .before .before .before .before .before .before .before .before .before .before .before .before .before .before .before .before .before .before .before .before .before .before .before .pre .0) (c .before .before .before .before .before .before .before .before .before .before .before .before .before .before .before .before .before .before .before .before .before .before .before .before .before .pre .1) (c .before .before .before .before .before .before .before .before .before .before .before .before .before .before .before .before .before .before .before .before .before .before .before .before .before .pre .4) (c .before .before .before .before .before .before .before .before .before .before .before .before .before .before .before .before .before .before .before .before .before .mark-inside .ensures) (c .before .before .before .before .before .before .before .before .before .before .before .before .before .before .before .before .before .zero .ensures) _ _ _ _ (c .before .before .before .before .before .before .before .before .before .before .before .before .before .tell-from .result) (c .before .before .before .before .before .before .before .before .before .r .given .1) (c .before .before .before .before .before .before .before .before .before .before .before .before .before .tell-from .ensures) _ _ _ _ (c .before .before .before .before .before .before .tell-from2 .result) (c .before .before .q .given .1) (c .before .before .before .before .before .before .tell-from2 .ensures)
-
-enum-told : tie.Need-enum-told
-enum-told c = search needs
-
-enum-told-2 : tie.Need-enum-told-2
-enum-told-2 c = search needs
-
-enum-told-3 : tie.Need-enum-told-3
-enum-told-3 c = search needs
-
-enum-told-4 : tie.Need-enum-told-4
-enum-told-4 c = search needs
-
-enum-told-5 : tie.Need-enum-told-5
-enum-told-5 c = search needs
+give-inside-requires-2 : tie.Need-give-inside-requires-2
+give-inside-requires-2 c κs = (c .before .before .before .quiet-marked .ensures .1 .laid, c .before .before .before .before .before .before .before .before .before .before .before .pre .1 .vars, omega arith)
 
 same-length : tie.Need-same-length
-same-length c = c .before .before .before .before .quiet .kept .0 ∙ c .before .before .before .before .before .before .before .before .before .before .before .tell-from2 .kept .1 .0 ∙ c .before .before .before .before .before .before .before .before .before .before .before .before .before .before .before .before .before .before .tell-from .kept .1 .0 ∙ c .before .before .before .before .before .before .before .before .before .before .before .before .before .before .before .before .before .before .before .before .before .before .zero .kept .0 ∙ c .before .before .before .before .before .before .before .before .before .before .before .before .before .before .before .before .before .before .before .before .before .before .before .before .before .before .mark-inside .kept .1 .0
+same-length c = c .before .before .give-inside2 .kept .1 .0 ∙ c .before .before .before .before .before .before .quiet-marked .kept .1 .0 ∙ c .before .before .before .before .before .before .before .before .before .before .give-inside .kept .1 .0
 
 returns : tie.Need-returns
-returns c = stores-silent (words (c .before .before .before .before .before .before .before .before .before .before .before .before .before .before .before .before .before .before .before .before .before .before .before .before .before .before .before .before .before .before .args .t .now)) _ _ _ (c .before .before .before .before .before .before .before .before .before .before .before .before .before .before .before .before .before .before .before .before .before .before .before .before .before .before .before .before .before .before .args .g) (c .before .before .before .before .before .before .before .before .before .before .before .before .before .before .before .before .before .before .before .before .before .before .before .before .before .before .before .before .before .before .args .j) (c .before .before .before .before .before .before .before .before .before .before .before .before .before .before .before .before .before .before .before .before .before .before .before .before .before .before .before .before .before .before .pre .0) (c .before .before .before .before .before .before .before .before .before .before .before .before .before .before .before .before .before .before .before .before .before .before .before .before .before .before .before .before .before .before .pre .1) (c .before .before .before .before .before .before .before .before .before .before .before .before .before .before .before .before .before .before .before .before .before .before .before .before .before .before .before .before .before .before .pre .4) (c .before .before .before .before .before .before .before .before .before .before .before .before .before .before .before .before .before .before .before .before .before .before .before .before .before .before .mark-inside .ensures) (c .before .before .before .before .before .before .before .before .before .before .before .before .before .before .before .before .before .before .before .before .before .before .zero .ensures) _ _ _ _ (c .before .before .before .before .before .before .before .before .before .before .before .before .before .before .before .before .before .before .tell-from .result) (c .before .before .before .before .before .before .before .before .before .before .before .before .before .before .r .given .1) (c .before .before .before .before .before .before .before .before .before .before .before .before .before .before .before .before .before .before .tell-from .ensures) _ _ _ _ (c .before .before .before .before .before .before .before .before .before .before .before .tell-from2 .result) (c .before .before .before .before .before .before .before .q .given .1) (c .before .before .before .before .before .before .before .before .before .before .before .tell-from2 .ensures) _ (c .before .before .before .before .quiet .result) (c .before .before .before .before .quiet .ensures .0) (c .before .before .before .before .quiet .ensures .2) (c .enum-told .given .1)
-
-same-length-2 : tie.Need-same-length-2
-same-length-2 c = c .before .before .before .before .quiet .kept .0 ∙ c .before .before .before .before .before .before .before .before .before .before .before .tell-from2 .kept .1 .0 ∙ c .before .before .before .before .before .before .before .before .before .before .before .before .before .before .before .before .before .before .tell-from .kept .1 .0 ∙ c .before .before .before .before .before .before .before .before .before .before .before .before .before .before .before .before .before .before .before .before .before .before .zero .kept .0 ∙ c .before .before .before .before .before .before .before .before .before .before .before .before .before .before .before .before .before .before .before .before .before .before .before .before .before .before .mark-inside .kept .1 .0
-
-returns-2 : tie.Need-returns-2
-returns-2 c = stores-loud (words (c .before .before .before .before .before .before .before .before .before .before .before .before .before .before .before .before .before .before .before .before .before .before .before .before .before .before .before .before .before .before .args .t .now)) _ _ _ (c .before .before .before .before .before .before .before .before .before .before .before .before .before .before .before .before .before .before .before .before .before .before .before .before .before .before .before .before .before .before .args .g) (c .before .before .before .before .before .before .before .before .before .before .before .before .before .before .before .before .before .before .before .before .before .before .before .before .before .before .before .before .before .before .args .j) (c .before .before .before .before .before .before .before .before .before .before .before .before .before .before .before .before .before .before .before .before .before .before .before .before .before .before .before .before .before .before .pre .0) (c .before .before .before .before .before .before .before .before .before .before .before .before .before .before .before .before .before .before .before .before .before .before .before .before .before .before .before .before .before .before .pre .1) (c .before .before .before .before .before .before .before .before .before .before .before .before .before .before .before .before .before .before .before .before .before .before .before .before .before .before .before .before .before .before .pre .4) (c .before .before .before .before .before .before .before .before .before .before .before .before .before .before .before .before .before .before .before .before .before .before .before .before .before .before .mark-inside .ensures) (c .before .before .before .before .before .before .before .before .before .before .before .before .before .before .before .before .before .before .before .before .before .before .zero .ensures) _ _ _ _ (c .before .before .before .before .before .before .before .before .before .before .before .before .before .before .before .before .before .before .tell-from .result) (c .before .before .before .before .before .before .before .before .before .before .before .before .before .before .r .given .1) (c .before .before .before .before .before .before .before .before .before .before .before .before .before .before .before .before .before .before .tell-from .ensures) _ _ _ _ (c .before .before .before .before .before .before .before .before .before .before .before .tell-from2 .result) (c .before .before .before .before .before .before .before .q .given .1) (c .before .before .before .before .before .before .before .before .before .before .before .tell-from2 .ensures) _ (c .before .before .before .before .quiet .result) (c .before .before .before .before .quiet .ensures .0) (c .before .before .before .before .quiet .ensures .2) (c .enum-told2 .given .1)
-
-same-length-3 : tie.Need-same-length-3
-same-length-3 c = c .before .before .before .before .quiet .kept .0 ∙ c .before .before .before .before .before .before .before .before .before .before .before .tell-from2 .kept .1 .0 ∙ c .before .before .before .before .before .before .before .before .before .before .before .before .before .before .before .before .before .before .tell-from .kept .1 .0 ∙ c .before .before .before .before .before .before .before .before .before .before .before .before .before .before .before .before .before .before .before .before .before .before .zero .kept .0 ∙ c .before .before .before .before .before .before .before .before .before .before .before .before .before .before .before .before .before .before .before .before .before .before .before .before .before .before .mark-inside .kept .1 .0
-
-returns-3 : tie.Need-returns-3
-returns-3 c = stores-room (words (c .before .before .before .before .before .before .before .before .before .before .before .before .before .before .before .before .before .before .before .before .before .before .before .before .before .before .before .before .before .before .args .t .now)) _ _ _ (c .before .before .before .before .before .before .before .before .before .before .before .before .before .before .before .before .before .before .before .before .before .before .before .before .before .before .before .before .before .before .args .g) (c .before .before .before .before .before .before .before .before .before .before .before .before .before .before .before .before .before .before .before .before .before .before .before .before .before .before .before .before .before .before .args .j) (c .before .before .before .before .before .before .before .before .before .before .before .before .before .before .before .before .before .before .before .before .before .before .before .before .before .before .before .before .before .before .pre .0) (c .before .before .before .before .before .before .before .before .before .before .before .before .before .before .before .before .before .before .before .before .before .before .before .before .before .before .before .before .before .before .pre .1) (c .before .before .before .before .before .before .before .before .before .before .before .before .before .before .before .before .before .before .before .before .before .before .before .before .before .before .before .before .before .before .pre .4) (c .before .before .before .before .before .before .before .before .before .before .before .before .before .before .before .before .before .before .before .before .before .before .before .before .before .before .mark-inside .ensures) (c .before .before .before .before .before .before .before .before .before .before .before .before .before .before .before .before .before .before .before .before .before .before .zero .ensures) _ _ _ _ (c .before .before .before .before .before .before .before .before .before .before .before .before .before .before .before .before .before .before .tell-from .result) (c .before .before .before .before .before .before .before .before .before .before .before .before .before .before .r .given .1) (c .before .before .before .before .before .before .before .before .before .before .before .before .before .before .before .before .before .before .tell-from .ensures) _ _ _ _ (c .before .before .before .before .before .before .before .before .before .before .before .tell-from2 .result) (c .before .before .before .before .before .before .before .q .given .1) (c .before .before .before .before .before .before .before .before .before .before .before .tell-from2 .ensures) _ (c .before .before .before .before .quiet .result) (c .before .before .before .before .quiet .ensures .0) (c .before .before .before .before .quiet .ensures .2) (c .enum-told3 .given .1)
-
-same-length-4 : tie.Need-same-length-4
-same-length-4 c = c .before .before .before .before .tell-from2 .kept .1 .0 ∙ c .before .before .before .before .before .before .before .before .before .before .before .tell-from .kept .1 .0 ∙ c .before .before .before .before .before .before .before .before .before .before .before .before .before .before .before .zero .kept .0 ∙ c .before .before .before .before .before .before .before .before .before .before .before .before .before .before .before .before .before .before .before .mark-inside .kept .1 .0
-
-returns-4 : tie.Need-returns-4
-returns-4 c = stores-hopeless (words (c .before .before .before .before .before .before .before .before .before .before .before .before .before .before .before .before .before .before .before .before .before .before .before .args .t .now)) _ _ _ (c .before .before .before .before .before .before .before .before .before .before .before .before .before .before .before .before .before .before .before .before .before .before .before .args .g) (c .before .before .before .before .before .before .before .before .before .before .before .before .before .before .before .before .before .before .before .before .before .before .before .args .j) (c .before .before .before .before .before .before .before .before .before .before .before .before .before .before .before .before .before .before .before .before .before .before .before .pre .0) (c .before .before .before .before .before .before .before .before .before .before .before .before .before .before .before .before .before .before .before .before .before .before .before .pre .1) (c .before .before .before .before .before .before .before .before .before .before .before .before .before .before .before .before .before .before .before .before .before .before .before .pre .4) (c .before .before .before .before .before .before .before .before .before .before .before .before .before .before .before .before .before .before .before .mark-inside .ensures) (c .before .before .before .before .before .before .before .before .before .before .before .before .before .before .before .zero .ensures) _ _ _ _ (c .before .before .before .before .before .before .before .before .before .before .before .tell-from .result) (c .before .before .before .before .before .before .before .r .given .1) (c .before .before .before .before .before .before .before .before .before .before .before .tell-from .ensures) _ (c .before .before .before .before .tell-from2 .result) (c .enum-told4 .given .1) (c .before .before .before .before .tell-from2 .ensures)
-
-same-length-5 : tie.Need-same-length-5
-same-length-5 c = c .before .before .before .before .tell-from .kept .1 .0 ∙ c .before .before .before .before .before .before .before .before .zero .kept .0 ∙ c .before .before .before .before .before .before .before .before .before .before .before .before .mark-inside .kept .1 .0
-
-returns-5 : tie.Need-returns-5
-returns-5 c = goal-hopeless (words (c .before .before .before .before .before .before .before .before .before .before .before .before .before .before .before .before .args .t .now)) _ _ _ (c .before .before .before .before .before .before .before .before .before .before .before .before .before .before .before .before .args .g) (c .before .before .before .before .before .before .before .before .before .before .before .before .before .before .before .before .args .j) (c .before .before .before .before .before .before .before .before .before .before .before .before .before .before .before .before .pre .0) (c .before .before .before .before .before .before .before .before .before .before .before .before .before .before .before .before .pre .1) (c .before .before .before .before .before .before .before .before .before .before .before .before .before .before .before .before .pre .4) (c .before .before .before .before .before .before .before .before .before .before .before .before .mark-inside .ensures) (c .before .before .before .before .before .before .before .before .zero .ensures) _ (c .before .before .before .before .tell-from .result) (c .enum-told5 .given .1) (c .before .before .before .before .tell-from .ensures)
+returns c = quiet-idle (c .before .before .before .before .before .before .before .before .before .before .before .before .before .before .pre .0) (c .before .before .before .before .before .before .before .before .before .before .give-inside .ensures) (c .before .before .before .before .before .before .quiet-marked .ensures) (c .before .before .give-inside2 .ensures)
 
 pub quiet-at-spec : {M : Type 1} → statement M
-quiet-at-spec = tie.close (tie.spec mark-inside-requires zero-requires tell-from-requires enum-known-r add-tell-from tell-from-requires-2 enum-known-q quiet-requires enum-told enum-told-2 enum-told-3 enum-told-4 enum-told-5 same-length returns same-length-2 returns-2 same-length-3 returns-3 same-length-4 returns-4 same-length-5 returns-5)
+quiet-at-spec = tie.close (tie.spec give-inside-requires quiet-marked-requires give-inside-requires-2 same-length returns)

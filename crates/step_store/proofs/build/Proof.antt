@@ -1,6 +1,7 @@
 -- On the words of the regions. Assumes nothing.
 use native.Mathlib.Omega.{arith}
 use Rattle.mem_parts.specs.Parts.{cut}
+use Rattle.rule_solve.proofs.Idling.{idle-beside}
 use Rattle.step_store.specs.Regions.{config-part, program-part}
 use Rattle.step_store.proofs.Regions.{config-fits, program-fits, was-built}
 use borrow.Author.Needs.{needs}
@@ -39,14 +40,14 @@ part-rewrite-in-end-2 c = omega (arith, program-fits (c .before .before .before 
 
 rewrite-in-requires : tie.Need-rewrite-in-requires
 unfolding cut config-part
-rewrite-in-requires c κs = (c .before .before .before .before .before .pre .2, omega arith, omega (arith, c .before .before .before .before .before .pre .0 .long))
+rewrite-in-requires c κs = (c .before .before .before .before .before .pre .2, omega arith, omega (arith, c .before .before .before .before .before .pre .0 .walk .laid .long))
 
 same-length : tie.Need-same-length
 same-length c = c .before .before .rewrite-in .kept .1 .1 .1 .1 .1 .0
 
 returns : tie.Need-returns
 unfolding cut config-part program-part
-returns c = (was-built (c .before .before .before .before .before .before .before .before .args .b .now) (c .before .before .before .before .before .before .before .before .args .w .now) (c .before .before .rewrite-in .last .1 .1 .1 .1 .1 .0) (c .before .before .before .before .before .before .before .before .args .n) (c .before .before .before .before .before .before .before .before .args .m) (c .before .before .before .before .before .before .before .before .args .next) (c .before .before .before .before .before .before .before .before .args .r) (c .before .before .before .before .before .before .before .before .args .i) (c .before .before .rewrite-in .result) (c .before .before .before .before .before .before .before .before .pre .0 .long) (c .before .before .rewrite-in .ensures), record { long = omega (arith, c .before .before .before .before .before .before .before .before .pre .0 .long, c .before .before .rewrite-in .kept .1 .1 .1 .1 .1 .0) })
+returns c = (was-built (c .before .before .before .before .before .before .before .before .args .b .now) (c .before .before .before .before .before .before .before .before .args .w .now) (c .before .before .rewrite-in .last .1 .1 .1 .1 .1 .0) (c .before .before .before .before .before .before .before .before .args .n) (c .before .before .before .before .before .before .before .before .args .m) (c .before .before .before .before .before .before .before .before .args .next) (c .before .before .before .before .before .before .before .before .args .r) (c .before .before .before .before .before .before .before .before .args .i) (c .before .before .rewrite-in .result) (c .before .before .before .before .before .before .before .before .pre .0 .walk .laid .long) (c .before .before .rewrite-in .ensures .0), idle-beside (omega arith) (omega arith) (c .before .before .rewrite-in .ensures .1) (c .before .before .before .before .before .before .before .before .pre .0))
 
 pub build-spec : {M : Type 1} → statement M
 build-spec = tie.close (tie.spec mul-e add-e mul-f add-f sub-rewrite-in part-rewrite-in-start part-rewrite-in-end sub-rewrite-in-2 part-rewrite-in-start-2 part-rewrite-in-end-2 rewrite-in-requires same-length returns)

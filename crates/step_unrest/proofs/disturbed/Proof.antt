@@ -4,14 +4,14 @@ use Prim.Native.Nat.{_-_}
 use native.Mathlib.Omega.{arith}
 use lib.ListN.{length}
 use Rattle.mem_words.specs.Words.{words}
-use Rattle.work_tables.specs.Tables.{Laid}
+use Rattle.rule_solve.specs.Idle.{Idle}
 use Rattle.step_unrest.proofs.Rounds.{Passed, passed-first, passed-next, passed-found, passed-all}
 use borrow.Author.Needs.{needs}
 use Rattle.step_unrest.proofs.disturbed.Statement.{statement}
 use Rattle.step_unrest.proofs.disturbed.Tie as tie
 
 abbrev Inv-loop : tie.InvT-loop
-Inv-loop t d w₀ g j k r₀ w r = Laid w × (length w ≡ length w₀) × Passed (words t) (words d) g j r
+Inv-loop t d w₀ g j k r₀ w r = Idle w × (length w ≡ length w₀) × Passed (words t) (words d) g j r
 
 abbrev μ-loop : tie.MeasureT-loop
 μ-loop t d w₀ g j k r₀ w r = 15 - r
