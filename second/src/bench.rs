@@ -45,17 +45,18 @@ fn apart(place: usize, count: usize) -> impl Iterator<Item = Step> {
     (place..place + count - 1).map(|place| step(3, place))
 }
 
-/// A query of one atom among waiting members, so that there are about so many
-/// parts, half of them before the atom and half after it; the steps that take
-/// it apart, and the atom's place then. A group of eight at a time is unfolded,
-/// since compositions are parts too.
+/// A query of some atoms among waiting members, so that there are about so many
+/// parts, half of them before the atoms and half after them; the steps that
+/// take it apart, and the first atom's place then. A group of eight at a time
+/// is unfolded, since compositions are parts too.
 const WAIT: &str = "w := true.\nv := w,w,w,w,w,w,w,w.\n";
 
-fn among(atom: &str, parts: usize) -> (String, Vec<Step>, usize) {
+fn among(atoms: &[&str], parts: usize) -> (String, Vec<Step>, usize) {
     let groups = parts / 16;
-    let query = format!("{}{atom}{}.", "v,".repeat(groups), ",v".repeat(groups));
-    let mut steps: Vec<Step> = apart(2, 2 * groups + 1).collect();
-    for member in (0..=2 * groups).rev().filter(|&m| m != groups) {
+    let query = format!("{}{}{}.", "v,".repeat(groups), atoms.join(","), ",v".repeat(groups));
+    let members = 2 * groups + atoms.len();
+    let mut steps: Vec<Step> = apart(2, members).collect();
+    for member in (0..members).rev().filter(|m| !(groups..groups + atoms.len()).contains(m)) {
         steps.push(step(2, 2 + member));
         steps.extend(apart(2 + member, 8));
     }
@@ -65,7 +66,7 @@ fn among(atom: &str, parts: usize) -> (String, Vec<Step>, usize) {
 /// A loop of rules 2, 5, 1, 9, 11, 1, 6 among waiting members.
 fn looping(parts: usize) -> Case {
     let rules = format!("{WAIT}p := (fail ? true ; true ? p).\n");
-    let (query, before, at) = among("p", parts);
+    let (query, before, at) = among(&["p"], parts);
     let round = [(2, 0), (5, 0), (1, 3), (9, 2), (11, 1), (1, 3), (6, 0)];
     let round = round.map(|(rule, place)| step(rule, at + place));
     Case {
@@ -206,17 +207,23 @@ fn hard_walk(parts: usize) -> Case {
     }
 }
 
-/// Splitting a small guard, itself named, among waiting members.
+/// Splitting small guards, each itself named, among waiting members: up to 16
+/// of them, the last first, so that the places of the others stay.
 fn splitting_inside(parts: usize) -> Case {
     let rules = format!("{WAIT}p := ((Y : (Y = a ? true ; Y = b ? true)) ? true).\n");
-    let (query, mut before, at) = among("p", parts);
+    let guards = (parts / 32).clamp(1, 16);
+    let (query, mut before, at) = among(&vec!["p"; guards], parts.saturating_sub(26 * guards));
     let more = [(2, 0), (5, 0), (4, 3), (5, 3), (1, 6), (1, 8)];
-    before.extend(more.map(|(rule, place)| step(rule, at + place)));
+    for guard in (0..guards).rev() {
+        before.extend(more.map(|(rule, place)| step(rule, at + guard + place)));
+    }
+    // a guard has eight places then
+    let places = (0..guards).rev().map(|guard| at + 8 * guard);
     Case {
-        what: "rule 12 in a small guard, itself named",
+        what: "rule 12 in small guards, each itself named",
         checker: checker(&rules, &query, &before),
-        steps: vec![splitting_step(12, at + 3, at + 2)],
-        copies: 2_000,
+        steps: places.map(|place| splitting_step(12, place + 3, place + 2)).collect(),
+        copies: 500,
     }
 }
 

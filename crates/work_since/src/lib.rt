@@ -46,6 +46,6 @@ pub fn acyclic_since(w: &mut [u8], used: usize, n: usize, a: usize, from: usize)
     requires { ⌜ Laid (now w) × Logged used × CanSince (logOf used (now w)) (posOf (now w)) (cellsOf (now w)) (varsOf (now w)) (marksOf (now w)) (stackOf (now w)) (donesOf (now w)) n a from ⌝ }
     ensures { λ r. ⌜ TestedSince (logOf used (now (w .entry))) (posOf (now (w .entry))) (cellsOf (now (w .entry))) (varsOf (now (w .entry))) (oldsOf (now (w .entry))) n a from r × Searched (now (w .entry)) (now (w .exit)) ⌝ }
 {
-    mem_parts::zero(w, 0, 4096);
+    mem_parts::zero(w, 0, 2 * a); // the marks of the applications that there are
     trace(w, used, n, a, from)
 }
