@@ -1,6 +1,5 @@
-// The pieces of an answer's text put into a lent slice. Where `write` is false they are only counted, so that one traversal tells
-// first whether the text fits and then writes it. Each function takes where its piece begins and hands back where it ends: the
-// slice's length + 1 where it does not fit.
+// The pieces of an answer's text put into a lent slice, or, where `write` is false, only counted. Each function takes where its piece
+// begins and hands back where it ends: the slice's length + 1 where it does not fit.
 ghost use mathlib.Core.Path.{_≡_};
 ghost use mathlib.Core.List.{_∷_, []};
 ghost use Prim.Native.Nat.{_+_, _<_, _≤_};
@@ -40,7 +39,7 @@ fn end_of(out: &[u8], at: usize, len: usize) -> usize
 }
 
 // How many digits `n` has.
-fn width(n: usize) -> usize
+pub fn width(n: usize) -> usize
     ensures { λ r. ⌜ Wide n r ⌝ }
 {
     let mut k = n;
@@ -83,7 +82,7 @@ pub fn number(out: &mut [u8], at: usize, n: usize, write: bool) -> usize
 }
 
 // How many bytes the name of node `i` has.
-fn name_length(table: &[u8], i: usize) -> usize
+pub fn name_length(table: &[u8], i: usize) -> usize
     requires { ⌜ Lower (triples (now table)) (length (triples (now table))) × (i < length (triples (now table))) ⌝ }
     ensures { λ r. ⌜ r ≡ length (named (triples (now (table .entry))) i) ⌝ }
 {
@@ -91,7 +90,7 @@ fn name_length(table: &[u8], i: usize) -> usize
     let mut c: usize = 0;
     while 0 < k {
         k = read_nodes::parent_of(table, k);
-        c += 1;
+        c += 1; // a byte
     }
     c
 }

@@ -69,7 +69,7 @@ size-names g [] = refl
 size-names g (x ∷ l) = ap suc (size-names g l)
 
 module _ (N : List ℕ) (W : List Word) (P T : List ℕ) where
-  line-first : (Q : List ℕ) → 0 < length Q → Lining (term-in N W P T) 0 (map (named N) (drop 0 Q)) [] [] (whole N Q W P T)
+  pub line-first : (Q : List ℕ) → 0 < length Q → Lining (term-in N W P T) 0 (map (named N) (drop 0 Q)) [] [] (whole N Q W P T)
   line-first [] h = absurd (omega arith)
   line-first (v ∷ Q) h = subst (λ (n : ℕ). Lining (term-in N W P T) 0 (map (named N) (v ∷ Q)) [] [] (line-text (map (named N) (v ∷ Q)) (terms (term-in N W P T) (range 0 n)))) (size-names (named N) (v ∷ Q)) (line-begin (term-in N W P T) (named N v) (map (named N) Q))
 
@@ -83,32 +83,37 @@ module _ (N : List ℕ) (W : List Word) (P T : List ℕ) where
   pub lined-print : {Q O M O′ : List ℕ} {w : Bool} {i x c a : ℕ} → x < 65535 → Lined N Q W P T O w M O′ i c a → CanPrint M x c O′ a
   lined-print h l = record { low = h; seen = l .seen; numbers = l .numbers; room = put-room (l .put) }
 
-  module _ (Q : List ℕ) {O M O₁ M′ O₂ : List ℕ} {w : Bool} {i v c a c′ a′ : ℕ} (e : v ≡ getD Q i 0) (l : Lined N Q W P T O w M O₁ i c a) (b : Bound N W P T M v i c O₁ a w M′ O₂ c′ a′) where
+  -- the binding of the variable i, which has the name v
+  module _ (Q : List ℕ) (i : ℕ) {v : ℕ} {s D : List ℕ} (e : v ≡ getD Q i 0) (h : i < length Q) (l : Lining (term-in N W P T) i (map (named N) (drop i Q)) s D (whole N Q W P T)) where
     names : map (named N) (drop i Q) ≡ named N v ∷ map (named N) (drop (i + 1) Q)
-    names = ap (map (named N)) (drop-cons Q i 0 (l .inside)) ∙ ap (λ (z : ℕ). named N z ∷ map (named N) (drop (suc i) Q)) (sym e) ∙ ap (λ (k : ℕ). named N v ∷ map (named N) (drop k Q)) n
+    names = ap (map (named N)) (drop-cons Q i 0 h) ∙ ap (λ (z : ℕ). named N z ∷ map (named N) (drop (suc i) Q)) (sym e) ∙ ap (λ (k : ℕ). named N v ∷ map (named N) (drop k Q)) n
       where
         n : suc i ≡ i + 1
         n = omega arith
 
-    lining : Lining (term-in N W P T) i (named N v ∷ map (named N) (drop (i + 1) Q)) (l .seen) (l .done) (whole N Q W P T)
-    lining = subst (λ (ys : List Name). Lining (term-in N W P T) i ys (l .seen) (l .done) (whole N Q W P T)) names (l .line)
+    lining : Lining (term-in N W P T) i (named N v ∷ map (named N) (drop (i + 1) Q)) s D (whole N Q W P T)
+    lining = subst (λ (ys : List Name). Lining (term-in N W P T) i ys s D (whole N Q W P T)) names l
 
+    -- the last one
+    pub line-ends : i + 1 ≡ length Q → D ++ binding (named N v) (term-in N W P T i) s ≡ whole N Q W P T
+    line-ends g = line-last (term-in N W P T) i (named N v) (subst (λ (ys : List Name). Lining (term-in N W P T) i (named N v ∷ ys) s D (whole N Q W P T)) none-left lining)
+      where
+        none-left : map (named N) (drop (i + 1) Q) ≡ []
+        none-left = ap (map (named N)) (drop-of-length-le Q {i = i + 1} (omega (arith, g)))
+
+    -- one that is not the last
+    pub line-onwards : (i + 1 ≡ length Q → ⊥) → Lining (term-in N W P T) (i + 1) (map (named N) (drop (i + 1) Q)) (unknowns (term-in N W P T i) s) (D ++ (binding (named N v) (term-in N W P T i) s ++ bytes ", ")) (whole N Q W P T)
+    line-onwards g = subst (λ (ys : List Name). Lining (term-in N W P T) (i + 1) ys (unknowns (term-in N W P T i) s) (D ++ (binding (named N v) (term-in N W P T i) s ++ bytes ", ")) (whole N Q W P T)) (sym next) (line-more (term-in N W P T) i (named N v) (named N (getD Q (i + 1) 0)) (map (named N) (drop (suc (i + 1)) Q)) (subst (λ (ys : List Name). Lining (term-in N W P T) i (named N v ∷ ys) s D (whole N Q W P T)) next lining))
+      where
+        next : map (named N) (drop (i + 1) Q) ≡ named N (getD Q (i + 1) 0) ∷ map (named N) (drop (suc (i + 1)) Q)
+        next = ap (map (named N)) (drop-cons Q (i + 1) 0 (omega (arith, h, g)))
+
+  module _ (Q : List ℕ) {O M O₁ M′ O₂ : List ℕ} {w : Bool} {i v c a c′ a′ : ℕ} (e : v ≡ getD Q i 0) (l : Lined N Q W P T O w M O₁ i c a) (b : Bound N W P T M v i c O₁ a w M′ O₂ c′ a′) where
     text : Put (l .done ++ binding (named N v) (term-in N W P T i) (l .seen)) w O 0 O₂ a′
     text = put-then (l .put) (b .put (l .seen) (l .numbers))
 
-    -- the last one
     pub lined-last : i + 1 ≡ length Q → Put (whole N Q W P T) w O 0 O₂ a′
-    lined-last h = put-as (whole N Q W P T) (line-last (term-in N W P T) i (named N v) (subst (λ (ys : List Name). Lining (term-in N W P T) i (named N v ∷ ys) (l .seen) (l .done) (whole N Q W P T)) none-left lining)) text
-      where
-        none-left : map (named N) (drop (i + 1) Q) ≡ []
-        none-left = ap (map (named N)) (drop-of-length-le Q {i = i + 1} (omega (arith, h)))
-
-    -- one that is not the last
-    onwards : (i + 1 ≡ length Q → ⊥) → Lining (term-in N W P T) (i + 1) (map (named N) (drop (i + 1) Q)) (unknowns (term-in N W P T i) (l .seen)) (l .done ++ (binding (named N v) (term-in N W P T i) (l .seen) ++ bytes ", ")) (whole N Q W P T)
-    onwards h = subst (λ (ys : List Name). Lining (term-in N W P T) (i + 1) ys (unknowns (term-in N W P T i) (l .seen)) (l .done ++ (binding (named N v) (term-in N W P T i) (l .seen) ++ bytes ", ")) (whole N Q W P T)) (sym next) (line-more (term-in N W P T) i (named N v) (named N (getD Q (i + 1) 0)) (map (named N) (drop (suc (i + 1)) Q)) (subst (λ (ys : List Name). Lining (term-in N W P T) i (named N v ∷ ys) (l .seen) (l .done) (whole N Q W P T)) next lining))
-      where
-        next : map (named N) (drop (i + 1) Q) ≡ named N (getD Q (i + 1) 0) ∷ map (named N) (drop (suc (i + 1)) Q)
-        next = ap (map (named N)) (drop-cons Q (i + 1) 0 (omega (arith, l .inside, h)))
+    lined-last h = put-as (whole N Q W P T) (line-ends Q i e (l .inside) (l .line) h) text
 
     pub lined-over : (i + 1 ≡ length Q → ⊥) → length O₂ < a′ → Put (whole N Q W P T) w O 0 O₂ a′
     lined-over h g = over-all (whole N Q W P T) shorter (omega (arith, g, text .long)) text
@@ -120,7 +125,7 @@ module _ (N : List ℕ) (W : List Word) (P T : List ℕ) where
         rest = bindings-text (map (named N) (drop (i + 1) Q)) (terms-from (term-in N W P T) (i + 1) (map (named N) (drop (i + 1) Q))) (unknowns-all (terms-from (term-in N W P T) (i + 1) (map (named N) (drop (i + 1) Q))) (unknowns (term-in N W P T i) (l .seen)))
 
         long : length ((l .done ++ (one ++ bytes ", ")) ++ rest) ≡ length (whole N Q W P T)
-        long = ap length (onwards h .text)
+        long = ap length (line-onwards Q i e (l .inside) (l .line) h .text)
 
         shorter : length (l .done ++ one) ≤ length (whole N Q W P T)
         shorter = omega (arith, long, length-append (l .done ++ (one ++ bytes ", ")) rest, length-append (l .done) (one ++ bytes ", "), length-append one (bytes ", "), length-append (l .done) one)
@@ -130,7 +135,7 @@ module _ (N : List ℕ) (W : List Word) (P T : List ℕ) where
       inside = omega (arith, l .inside, h);
       seen = unknowns (term-in N W P T i) (l .seen);
       done = l .done ++ (binding (named N v) (term-in N W P T i) (l .seen) ++ bytes ", ");
-      line = onwards h;
+      line = line-onwards Q i e (l .inside) (l .line) h;
       numbers = b .numbers (omega (arith, g, k)) (l .seen) (l .numbers);
       put = put-then (l .put) (put-then (b .put (l .seen) (l .numbers)) p);
     }

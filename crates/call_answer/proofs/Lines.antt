@@ -23,7 +23,7 @@ use Rattle.step_meant.specs.Meant.{Meant}
 use Rattle.step_meant.specs.Deciding.{HoldsState}
 use Rattle.answer_boxes.specs.Asked.{AnswerStands, Found}
 use Rattle.answer_emit.specs.Put.{Put, put-as, put-same}
-use Rattle.answer_stack.specs.Slots.{Answered, answered-to}
+use Rattle.answer_known.specs.Known.{Counted, counted-to}
 use Rattle.answer_turn.specs.Turning.{term-in, Shown}
 use Rattle.answer_line.specs.Lined.{CanLine}
 use Rattle.call_state.proofs.Answers.{config-meant}
@@ -110,12 +110,12 @@ module _ (b : List ℕ) (n u : ℕ) (X : List ℕ) (ready : AnswerReady b n u X)
     pub line-long : length O₁ < r → AnswerOf b n O O₁ 17
     line-long l = of-17 b n O answer-of (λ h. ready .stands h .is) O₁ r (λ h. put-as (answer-text (names-of (h .state)) (answer-of h)) (line-is h) p) (omega (arith, p .long))
 
-    module _ (Y : List ℕ) (l : Laid X) (g : Logged u) (a : Answered X Y) where
+    module _ (Y : List ℕ) (l : Laid X) (g : Logged u) (a : Counted X Y) where
       pub shown-again : Shown N (logOf u Y) (posOf Y) (cellsOf Y)
-      shown-again = answered-to u (Shown N) g l a shown-lent
+      shown-again = counted-to u (Shown N) g l a shown-lent
 
       line-again : (h : HoldsState b) → line-text (map (named N) Q) (terms (term-in N (logOf u Y) (posOf Y) (cellsOf Y)) (range 0 (length Q))) ≡ answer-text (names-of (h .state)) (answer-of h)
-      line-again h = answered-to u (λ (w : List Word) (x t : List ℕ). line-text (map (named N) Q) (terms (term-in N w x t) (range 0 (length Q))) ≡ answer-text (names-of (h .state)) (answer-of h)) g l a (line-is h)
+      line-again h = counted-to u (λ (w : List Word) (x t : List ℕ). line-text (map (named N) Q) (terms (term-in N w x t) (range 0 (length Q))) ≡ answer-text (names-of (h .state)) (answer-of h)) g l a (line-is h)
 
       module _ (O₂ : List ℕ) (q : ℕ) (p₂ : Put (line-text (map (named N) Q) (terms (term-in N (logOf u Y) (posOf Y) (cellsOf Y)) (range 0 (length Q)))) true O₁ 0 O₂ q) (f : r ≤ length O₁) where
         put-text : (h : HoldsState b) → Put (answer-text (names-of (h .state)) (answer-of h)) true O 0 O₂ q

@@ -36,7 +36,7 @@ fn above(out: &[u8], q: usize) -> usize
     256 + q
 }
 
-// Puts the text of the answer that was told, `used` words of the log being used. It is only counted at first, so that `out` is as it was
+// Puts the text of the answer that was told, `used` words of the log being used. Its length is computed first, so that `out` is as it was
 // where the text is longer.
 fn put(store: &[u8], work: &mut [u8], used: usize, number: usize, out: &mut [u8]) -> usize
     requires { ⌜ Laid (now work) × Logged used × (270429 ≤ length (now store)) × AnswerReady (now store) number used (now work) ⌝ }
@@ -46,7 +46,7 @@ fn put(store: &[u8], work: &mut [u8], used: usize, number: usize, out: &mut [u8]
     let v = mem_parts::get3(store, 0, 18, 3);
     let a = 18 + 3 * k;
     let e = 184365 + 3 * v;
-    let r = answer_line::line(work, used, &store[18..a], &store[184365..e], out, false);
+    let r = answer_length::text_end(work, used, &store[18..a], &store[184365..e], out);
     if out.len() < r {
         return 17;
     }

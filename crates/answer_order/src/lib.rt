@@ -1,0 +1,1 @@
+// Applications in argument-first order: definitions and laws. No code.
