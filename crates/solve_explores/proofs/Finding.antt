@@ -242,9 +242,9 @@ pub left-push : (l a j h : ℕ) (M M′ D D′ : List ℕ) → Stored M j 1 M′
 unfolding left
 left-push l a j h M M′ D D′ s lm z ja p = lex (2 * whites a M′ + (h + 1)) (2 * whites a M + h) l (l - getD D′ (h + 1 - 1) 0) (l - getD D (h - 1) 0) (omega (arith, whites-less a j 1 M M′ s lm z (λ e. omega arith) ja)) (omega arith)
 
-pub left-pop : (l a k q h top : ℕ) (M M′ D : List ℕ) → Stored M k q M′ → k < length M → (getD M k 0 ≡ 0 → ⊥) → (q ≡ 0 → ⊥) → top + 1 ≡ h → left l M′ D a top < left l M D a h
+pub left-pop : (l a k q h top : ℕ) (M M′ D D′ : List ℕ) → Stored M k q M′ → k < length M → (getD M k 0 ≡ 0 → ⊥) → (q ≡ 0 → ⊥) → top + 1 ≡ h → left l M′ D′ a top < left l M D a h
 unfolding left
-left-pop l a k q h top M M′ D s lm n nq e = lex (2 * whites a M′ + top) (2 * whites a M + h) l (l - getD D (top - 1) 0) (l - getD D (h - 1) 0) (omega (arith, whites-same a M M′ (λ j. go j (ℕ-discrete j k)))) (omega arith)
+left-pop l a k q h top M M′ D D′ s lm n nq e = lex (2 * whites a M′ + top) (2 * whites a M + h) l (l - getD D′ (top - 1) 0) (l - getD D (h - 1) 0) (omega (arith, whites-same a M M′ (λ j. go j (ℕ-discrete j k)))) (omega arith)
   where
     go : (j : ℕ) → Dec (j ≡ k) → white (getD M′ j 0) ≡ white (getD M j 0)
     go j (yes d) = white-some (getD M′ j 0) (λ z. nq (sym (stored-same 0 s lm) ∙ ap (λ (x : ℕ). getD M′ x 0) (sym d) ∙ z)) ∙ sym (white-some (getD M j 0) (λ z. n (ap (λ (x : ℕ). getD M x 0) (sym d) ∙ z)))
@@ -329,3 +329,26 @@ clear-more M M′ i h s l k b = go (ℕ-discrete k i)
     go : Dec (k ≡ i) → getD M′ k 0 ≡ 0
     go (yes e) = ap (λ (x : ℕ). getD M′ x 0) e ∙ stored-same 0 s l
     go (no d) = stored-other k 0 s d ∙ h k (omega arith)
+
+-- an application leaves the stack, and the argument that led to it is passed
+module _ (W : List Word) (P T M K D : List ℕ) (a h q : ℕ) (S : Search W P T M K D a h q) (top k i : ℕ) (et : top + 1 ≡ h) (ek : k ≡ getD K top 0) where
+  led : 0 < top → Leads W T (getD P (getD K (top - 1) 0) 0 + 3 + getD D (top - 1) 0) k
+  led p =
+      let e : top - 1 + 1 ≡ top = omega arith in
+      subst (Leads W T (getD P (getD K (top - 1) 0) 0 + 3 + getD D (top - 1) 0)) (ap (λ (x : ℕ). getD K x 0) e ∙ sym ek) (S .links (top - 1) (omega arith))
+
+  pub led-inside : 0 < top → getD D (top - 1) 0 < length W
+  led-inside p = omega (arith, var-inside W (getD P (getD K (top - 1) 0) 0 + 3 + getD D (top - 1) 0) (led p .var))
+
+  module _ (ei : i ≡ getD D top 0) (v : isVar (getD W (getD P k 0 + 3 + i) Bad) ≡ false) (A : Apps T a) (M′ : List ℕ) (sm : Stored M k q M′) (lm : k < length M) (D′ : List ℕ) (some : 0 < top → Stored D (top - 1) (getD D (top - 1) 0 + 1) D′) (none : top ≡ 0 → D′ ≡ D) (ld : top ≤ length D) where
+    off : Search W P T M′ K D a top (q + 1)
+    off = popped W P T M K D a h q S top k i et ek ei v A M′ sm lm
+
+    pub passed : Search W P T M′ K D′ a top (q + 1)
+    passed = go (decLt 0 top)
+      where
+        go : Dec (0 < top) → Search W P T M′ K D′ a top (q + 1)
+        go (yes p) =
+            let r : getD M′ k 0 ≡ q = stored-same 0 sm lm in
+            advanced W P T M′ K D a top (q + 1) off (top - 1) (getD K (top - 1) 0) (getD D (top - 1) 0) (omega arith) refl refl (led p .var) (settled-done W T M′ _ k (getD M′ k 0) (led p) refl (λ z. omega (arith, S .two)) (λ z. omega (arith, S .two))) D′ (some p) (omega arith)
+        go (no n) = subst (λ (l : List ℕ). Search W P T M′ K l a top (q + 1)) (sym (none (omega arith))) off

@@ -7,6 +7,7 @@ ghost use Rattle.mem_words.specs.Words.{words};
 ghost use Rattle.mem_parts.specs.Parts.{cut};
 ghost use Rattle.solve_explores.specs.Search.{ChildAt, CanLook, CanPlace, Placed, CanDrain, Draining, CanExplore, Exploring};
 ghost use Rattle.work_tables.specs.Tables.{cellsOf, posOf, logOf, marksOf, stackOf, donesOf, Laid, Logged, Searched};
+ghost use Rattle.work_explores.specs.Passing.{CanPass, Passed};
 use solve_explores::Child;
 
 // As `solve_explores::look`, in parts of the slice.
@@ -36,6 +37,18 @@ fn place(w: &mut [u8], h: usize, j: usize)
     work_search::done_put(w, h, 0);
 }
 
+// Behind an application that left the stack: the argument that led to it is passed, if the stack, of height `h`, is not empty.
+fn pass(w: &mut [u8], h: usize)
+    requires { ⌜ CanPass (now w) h ⌝ }
+    ensures { λ _. ⌜ Passed (now (w .entry)) h (now (w .exit)) ⌝ }
+{
+    if h == 0 {
+        return;
+    }
+    let i = work_search::done_get(w, h - 1);
+    work_search::done_put(w, h - 1, i + 1);
+}
+
 // Goes on with a search until its stack is empty: 0 for a cycle, else the next rank.
 fn drain(w: &mut [u8], used: usize, a: usize, n: usize, q: usize) -> usize
     requires { ⌜ Laid (now w) × Logged used × CanDrain (logOf used (now w)) (posOf (now w)) (cellsOf (now w)) (marksOf (now w)) (stackOf (now w)) (donesOf (now w)) a n q ⌝ }
@@ -53,6 +66,7 @@ fn drain(w: &mut [u8], used: usize, a: usize, n: usize, q: usize) -> usize
             Child::Last => {
                 work_search::mark_put(w, j, clock);
                 clock += 1;
+                pass(w, top);
                 h = top;
             }
             Child::Open => {

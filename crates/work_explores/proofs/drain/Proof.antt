@@ -10,8 +10,10 @@ use Rattle.work_tables.specs.Tables.{cellsOf, posOf, logOf, marksOf, stackOf, d
 use Rattle.solve_explores.specs.Search.{ChildAt, CanLook, Leads, Search, Marked, left}
 use Rattle.solve_explores.specs.declared.Child.the-variants.{Last, Open}
 use Rattle.solve_explores.proofs.Searching.{pushed}
-use Rattle.solve_explores.proofs.Finding.{advanced, popped, cycle, left-push, left-pop, left-next, marked-same, marked-store, drained-done, stack-room, settled-open, settled-done, leads-app}
-use Rattle.work_tables.specs.Writes.{mark-mates, done-mates}
+use Rattle.solve_explores.proofs.Finding.{advanced, passed, led-inside, cycle, left-push, left-pop, left-next, marked-same, marked-store, drained-done, stack-room, settled-open, settled-done, leads-app}
+use Rattle.work_tables.specs.Writes.{done-mates}
+use Rattle.mem_numbers.specs.Stored.{Stored}
+use Rattle.work_explores.specs.Passing.{pass-mates}
 use Rattle.solve_tells.proofs.Meeting.{var-inside}
 use borrow.Author.Needs.{needs}
 use Rattle.work_explores.proofs.drain.Statement.{statement}
@@ -56,11 +58,14 @@ mark-put-requires c κs = record { laid = c .before .before .before .before .bef
 add-clock : tie.Need-add-clock Inv-loop μ-loop
 add-clock c = omega (arith, (c .before .before .before .before .before .before .before .before .before .before .before .before .before .before .before .loop .inv .3) .count, (c .before .before .before .before .before .before .before .before .before .before .before .before .before .before .before .before .before .pre .2 .fits) .few)
 
+pass-requires : tie.Need-pass-requires Inv-loop μ-loop
+pass-requires c κs = let g = laid-after (c .before .before .before .before .before .before .before .before .before .before .before .before .before .before .before .before .loop .inv .0) (c .before .before .before .mark-put .ensures .rest) in record { laid = g; inside = omega (arith, (c .before .before .before .before .before .before .before .before .before .before .before .before .before .before .before .before .loop .inv .3) .count, (c .before .before .before .before .before .before .before .before .before .before .before .before .before .before .before .before .loop .inv .3) .two, (c .before .before .before .before .before .before .before .before .before .before .before .before .before .before .before .before .before .before .pre .2 .fits) .fitD, length-done (c .before .before .before .before .before .before .before .before .before .before .before .before .before .before .before .before .before .before .pre .0)); small = λ p. omega (arith, ap (λ (D : List ℕ). getD D (c .before .before .before .before .before .before .before .before .before .before .before .before .before .before .before .before .loop .h - 1 - 1) 0) (c .before .before .before .mark-put .ensures .done), led-inside (logOf (c .before .before .before .before .before .before .before .before .before .before .before .before .before .before .before .before .before .before .args .used) (c .before .before .before .before .before .before .before .before .before .before .before .before .before .before .before .before .before .before .args .w .now)) (posOf (c .before .before .before .before .before .before .before .before .before .before .before .before .before .before .before .before .before .before .args .w .now)) (cellsOf (c .before .before .before .before .before .before .before .before .before .before .before .before .before .before .before .before .before .before .args .w .now)) (marksOf (c .before .before .before .before .before .before .before .before .before .before .before .before .before .before .before .before .loop .w)) (stackOf (c .before .before .before .before .before .before .before .before .before .before .before .before .before .before .before .before .loop .w)) (donesOf (c .before .before .before .before .before .before .before .before .before .before .before .before .before .before .before .before .loop .w)) (c .before .before .before .before .before .before .before .before .before .before .before .before .before .before .before .before .before .before .args .a) (c .before .before .before .before .before .before .before .before .before .before .before .before .before .before .before .before .loop .h) (c .before .before .before .before .before .before .before .before .before .before .before .before .before .before .before .before .loop .clock) (c .before .before .before .before .before .before .before .before .before .before .before .before .before .before .before .before .loop .inv .3) (c .before .before .before .before .before .before .before .before .before .before .before .before .before .before .before .before .loop .h - 1) (c .before .before .before .before .before .before .before .before .before .before .before .before .before .stack-get .result) (c .before .before .before .before .before .before .before .before .before .before .before .done-get .result) (omega arith) (c .before .before .before .before .before .before .before .before .before .before .before .before .before .stack-get .ensures .is) p, (c .before .before .before .before .before .before .before .before .before .before .before .before .before .before .before .before .before .before .pre .2 .fits) .long) }
+
 loop-less : tie.Need-loop-less Inv-loop μ-loop
-loop-less c = mark-mates (λ (K D : List ℕ). left (length (logOf (c .before .before .before .before .before .before .before .before .before .before .before .before .before .before .before .before .before .args .used) (c .before .before .before .before .before .before .before .before .before .before .before .before .before .before .before .before .before .args .w .now))) (marksOf (c .before .before .mark-put .last .0)) D (c .before .before .before .before .before .before .before .before .before .before .before .before .before .before .before .before .before .args .a) (c .before .before .before .before .before .before .before .before .before .before .before .before .before .before .before .loop .h - 1) < left (length (logOf (c .before .before .before .before .before .before .before .before .before .before .before .before .before .before .before .before .before .args .used) (c .before .before .before .before .before .before .before .before .before .before .before .before .before .before .before .before .before .args .w .now))) (marksOf (c .before .before .before .before .before .before .before .before .before .before .before .before .before .before .before .loop .w)) (donesOf (c .before .before .before .before .before .before .before .before .before .before .before .before .before .before .before .loop .w)) (c .before .before .before .before .before .before .before .before .before .before .before .before .before .before .before .before .before .args .a) (c .before .before .before .before .before .before .before .before .before .before .before .before .before .before .before .loop .h)) (c .before .before .mark-put .ensures) (left-pop (length (logOf (c .before .before .before .before .before .before .before .before .before .before .before .before .before .before .before .before .before .args .used) (c .before .before .before .before .before .before .before .before .before .before .before .before .before .before .before .before .before .args .w .now))) (c .before .before .before .before .before .before .before .before .before .before .before .before .before .before .before .before .before .args .a) (c .before .before .before .before .before .before .before .before .before .before .before .before .stack-get .result) (c .before .before .before .before .before .before .before .before .before .before .before .before .before .before .before .loop .clock) (c .before .before .before .before .before .before .before .before .before .before .before .before .before .before .before .loop .h) (c .before .before .before .before .before .before .before .before .before .before .before .before .before .before .before .loop .h - 1) (marksOf (c .before .before .before .before .before .before .before .before .before .before .before .before .before .before .before .loop .w)) _ (donesOf (c .before .before .before .before .before .before .before .before .before .before .before .before .before .before .before .loop .w)) (c .before .before .mark-put .ensures .mark) (omega (arith, (subst (λ (x : ℕ). x < (c .before .before .before .before .before .before .before .before .before .before .before .before .before .before .before .before .before .args .a)) (sym (c .before .before .before .before .before .before .before .before .before .before .before .before .stack-get .ensures .is)) ((c .before .before .before .before .before .before .before .before .before .before .before .before .before .before .before .loop .inv .3) .inside (c .before .before .before .before .before .before .before .before .before .before .before .before .before .before .before .loop .h - 1) (omega arith))), (c .before .before .before .before .before .before .before .before .before .before .before .before .before .before .before .before .before .pre .2 .fits) .fitM, length-mark (c .before .before .before .before .before .before .before .before .before .before .before .before .before .before .before .loop .inv .0), length-mark (c .before .before .before .before .before .before .before .before .before .before .before .before .before .before .before .before .before .pre .0))) (λ z. omega (arith, ap (λ (x : ℕ). getD (marksOf (c .before .before .before .before .before .before .before .before .before .before .before .before .before .before .before .loop .w)) x 0) (c .before .before .before .before .before .before .before .before .before .before .before .before .stack-get .ensures .is), (c .before .before .before .before .before .before .before .before .before .before .before .before .before .before .before .loop .inv .3) .grey (c .before .before .before .before .before .before .before .before .before .before .before .before .before .before .before .loop .h - 1) (omega arith))) (λ z. omega (arith, (c .before .before .before .before .before .before .before .before .before .before .before .before .before .before .before .loop .inv .3) .two)) (omega arith))
+loop-less c = pass-mates (λ (M K : List ℕ). left (length (logOf (c .before .before .before .before .before .before .before .before .before .before .before .before .before .before .before .before .before .before .before .before .before .args .used) (c .before .before .before .before .before .before .before .before .before .before .before .before .before .before .before .before .before .before .before .before .before .args .w .now))) M (donesOf (c .before .before .pass .last .0)) (c .before .before .before .before .before .before .before .before .before .before .before .before .before .before .before .before .before .before .before .before .before .args .a) (c .before .before .before .before .before .before .before .before .before .before .before .before .before .before .before .before .before .before .before .loop .h - 1) < left (length (logOf (c .before .before .before .before .before .before .before .before .before .before .before .before .before .before .before .before .before .before .before .before .before .args .used) (c .before .before .before .before .before .before .before .before .before .before .before .before .before .before .before .before .before .before .before .before .before .args .w .now))) (marksOf (c .before .before .before .before .before .before .before .before .before .before .before .before .before .before .before .before .before .before .before .loop .w)) (donesOf (c .before .before .before .before .before .before .before .before .before .before .before .before .before .before .before .before .before .before .before .loop .w)) (c .before .before .before .before .before .before .before .before .before .before .before .before .before .before .before .before .before .before .before .before .before .args .a) (c .before .before .before .before .before .before .before .before .before .before .before .before .before .before .before .before .before .before .before .loop .h)) (c .before .before .pass .ensures) (left-pop (length (logOf (c .before .before .before .before .before .before .before .before .before .before .before .before .before .before .before .before .before .before .before .before .before .args .used) (c .before .before .before .before .before .before .before .before .before .before .before .before .before .before .before .before .before .before .before .before .before .args .w .now))) (c .before .before .before .before .before .before .before .before .before .before .before .before .before .before .before .before .before .before .before .before .before .args .a) (c .before .before .before .before .before .before .before .before .before .before .before .before .before .before .before .before .stack-get .result) (c .before .before .before .before .before .before .before .before .before .before .before .before .before .before .before .before .before .before .before .loop .clock) (c .before .before .before .before .before .before .before .before .before .before .before .before .before .before .before .before .before .before .before .loop .h) (c .before .before .before .before .before .before .before .before .before .before .before .before .before .before .before .before .before .before .before .loop .h - 1) (marksOf (c .before .before .before .before .before .before .before .before .before .before .before .before .before .before .before .before .before .before .before .loop .w)) _ (donesOf (c .before .before .before .before .before .before .before .before .before .before .before .before .before .before .before .before .before .before .before .loop .w)) _ (c .before .before .before .before .before .before .mark-put .ensures .mark) (omega (arith, (subst (λ (x : ℕ). x < (c .before .before .before .before .before .before .before .before .before .before .before .before .before .before .before .before .before .before .before .before .before .args .a)) (sym (c .before .before .before .before .before .before .before .before .before .before .before .before .before .before .before .before .stack-get .ensures .is)) ((c .before .before .before .before .before .before .before .before .before .before .before .before .before .before .before .before .before .before .before .loop .inv .3) .inside (c .before .before .before .before .before .before .before .before .before .before .before .before .before .before .before .before .before .before .before .loop .h - 1) (omega arith))), (c .before .before .before .before .before .before .before .before .before .before .before .before .before .before .before .before .before .before .before .before .before .pre .2 .fits) .fitM, length-mark (c .before .before .before .before .before .before .before .before .before .before .before .before .before .before .before .before .before .before .before .loop .inv .0), length-mark (c .before .before .before .before .before .before .before .before .before .before .before .before .before .before .before .before .before .before .before .before .before .pre .0))) (λ z. omega (arith, ap (λ (x : ℕ). getD (marksOf (c .before .before .before .before .before .before .before .before .before .before .before .before .before .before .before .before .before .before .before .loop .w)) x 0) (c .before .before .before .before .before .before .before .before .before .before .before .before .before .before .before .before .stack-get .ensures .is), (c .before .before .before .before .before .before .before .before .before .before .before .before .before .before .before .before .before .before .before .loop .inv .3) .grey (c .before .before .before .before .before .before .before .before .before .before .before .before .before .before .before .before .before .before .before .loop .h - 1) (omega arith))) (λ z. omega (arith, (c .before .before .before .before .before .before .before .before .before .before .before .before .before .before .before .before .before .before .before .loop .inv .3) .two)) (omega arith))
 
 loop-again : tie.Need-loop-again Inv-loop μ-loop
-loop-again c = (laid-after (c .before .before .before .before .before .before .before .before .before .before .before .before .before .before .before .loop .inv .0) (c .before .before .mark-put .ensures .rest), outside-then (c .before .before .before .before .before .before .before .before .before .before .before .before .before .before .before .loop .inv .1) (c .before .before .mark-put .ensures .rest), marked-store (marksOf (c .before .before .before .before .before .before .before .before .before .before .before .before .before .before .before .before .before .args .w .now)) (marksOf (c .before .before .before .before .before .before .before .before .before .before .before .before .before .before .before .loop .w)) _ (c .before .before .before .before .before .before .before .before .before .before .before .before .stack-get .result) (c .before .before .before .before .before .before .before .before .before .before .before .before .before .before .before .loop .clock) (c .before .before .before .before .before .before .before .before .before .before .before .before .before .before .before .loop .inv .2) (c .before .before .mark-put .ensures .mark) (omega (arith, (subst (λ (x : ℕ). x < (c .before .before .before .before .before .before .before .before .before .before .before .before .before .before .before .before .before .args .a)) (sym (c .before .before .before .before .before .before .before .before .before .before .before .before .stack-get .ensures .is)) ((c .before .before .before .before .before .before .before .before .before .before .before .before .before .before .before .loop .inv .3) .inside (c .before .before .before .before .before .before .before .before .before .before .before .before .before .before .before .loop .h - 1) (omega arith))), (c .before .before .before .before .before .before .before .before .before .before .before .before .before .before .before .before .before .pre .2 .fits) .fitM, length-mark (c .before .before .before .before .before .before .before .before .before .before .before .before .before .before .before .loop .inv .0), length-mark (c .before .before .before .before .before .before .before .before .before .before .before .before .before .before .before .before .before .pre .0))) (λ z. omega (arith, (c .before .before .before .before .before .before .before .before .before .before .before .before .before .before .before .loop .inv .3) .two)), mark-mates (λ (K D : List ℕ). Search (logOf (c .before .before .before .before .before .before .before .before .before .before .before .before .before .before .before .before .before .args .used) (c .before .before .before .before .before .before .before .before .before .before .before .before .before .before .before .before .before .args .w .now)) (posOf (c .before .before .before .before .before .before .before .before .before .before .before .before .before .before .before .before .before .args .w .now)) (cellsOf (c .before .before .before .before .before .before .before .before .before .before .before .before .before .before .before .before .before .args .w .now)) (marksOf (c .before .before .mark-put .last .0)) K D (c .before .before .before .before .before .before .before .before .before .before .before .before .before .before .before .before .before .args .a) (c .before .before .before .before .before .before .before .before .before .before .before .before .before .before .before .loop .h - 1) (c .before .before .before .before .before .before .before .before .before .before .before .before .before .before .before .loop .clock + 1)) (c .before .before .mark-put .ensures) (popped (logOf (c .before .before .before .before .before .before .before .before .before .before .before .before .before .before .before .before .before .args .used) (c .before .before .before .before .before .before .before .before .before .before .before .before .before .before .before .before .before .args .w .now)) (posOf (c .before .before .before .before .before .before .before .before .before .before .before .before .before .before .before .before .before .args .w .now)) (cellsOf (c .before .before .before .before .before .before .before .before .before .before .before .before .before .before .before .before .before .args .w .now)) (marksOf (c .before .before .before .before .before .before .before .before .before .before .before .before .before .before .before .loop .w)) (stackOf (c .before .before .before .before .before .before .before .before .before .before .before .before .before .before .before .loop .w)) (donesOf (c .before .before .before .before .before .before .before .before .before .before .before .before .before .before .before .loop .w)) (c .before .before .before .before .before .before .before .before .before .before .before .before .before .before .before .before .before .args .a) (c .before .before .before .before .before .before .before .before .before .before .before .before .before .before .before .loop .h) (c .before .before .before .before .before .before .before .before .before .before .before .before .before .before .before .loop .clock) (c .before .before .before .before .before .before .before .before .before .before .before .before .before .before .before .loop .inv .3) (c .before .before .before .before .before .before .before .before .before .before .before .before .before .before .before .loop .h - 1) (c .before .before .before .before .before .before .before .before .before .before .before .before .stack-get .result) (c .before .before .before .before .before .before .before .before .before .before .done-get .result) (omega arith) (c .before .before .before .before .before .before .before .before .before .before .before .before .stack-get .ensures .is) (c .before .before .before .before .before .before .before .before .before .before .done-get .ensures .is) (subst (λ (x : ℕ). ChildAt (logOf (c .before .before .before .before .before .before .before .before .before .before .before .before .before .before .before .before .before .args .used) (c .before .before .before .before .before .before .before .before .before .before .before .before .before .before .before .before .before .args .w .now)) (cellsOf (c .before .before .before .before .before .before .before .before .before .before .before .before .before .before .before .before .before .args .w .now)) x Last) (ap (λ (x : ℕ). x + 3 + (c .before .before .before .before .before .before .before .before .before .before .done-get .result)) ((got-pos (c .before .before .before .before .before .before .before .before .before .before .before .before .before .before .before .loop .inv .1) (c .before .before .before .before .before .before .before .before .pos-get .ensures)) .is)) (subst (ChildAt (logOf (c .before .before .before .before .before .before .before .before .before .before .before .before .before .before .before .before .before .args .used) (c .before .before .before .before .before .before .before .before .before .before .before .before .before .before .before .before .before .args .w .now)) (cellsOf (c .before .before .before .before .before .before .before .before .before .before .before .before .before .before .before .before .before .args .w .now)) (c .before .before .before .before .before .before .before .before .pos-get .result + 3 + (c .before .before .before .before .before .before .before .before .before .before .done-get .result))) (c .before .before .before .before .enum-told .given .1) (searched-at (c .before .before .before .before .before .before .before .before .before .before .before .before .before .before .before .before .before .args .used) (λ (W : List Word) (P T : List ℕ). ChildAt W T (c .before .before .before .before .before .before .before .before .pos-get .result + 3 + c .before .before .before .before .before .before .before .before .before .before .done-get .result) (c .before .before .before .before .before .before .look .result)) (c .before .before .before .before .before .before .before .before .before .before .before .before .before .before .before .loop .inv .1) (c .before .before .before .before .before .before .look .ensures)))) ((c .before .before .before .before .before .before .before .before .before .before .before .before .before .before .before .before .before .pre .2 .fits) .apps) _ (c .before .before .mark-put .ensures .mark) (omega (arith, (subst (λ (x : ℕ). x < (c .before .before .before .before .before .before .before .before .before .before .before .before .before .before .before .before .before .args .a)) (sym (c .before .before .before .before .before .before .before .before .before .before .before .before .stack-get .ensures .is)) ((c .before .before .before .before .before .before .before .before .before .before .before .before .before .before .before .loop .inv .3) .inside (c .before .before .before .before .before .before .before .before .before .before .before .before .before .before .before .loop .h - 1) (omega arith))), (c .before .before .before .before .before .before .before .before .before .before .before .before .before .before .before .before .before .pre .2 .fits) .fitM, length-mark (c .before .before .before .before .before .before .before .before .before .before .before .before .before .before .before .loop .inv .0), length-mark (c .before .before .before .before .before .before .before .before .before .before .before .before .before .before .before .before .before .pre .0)))))
+loop-again c = let x = pass-mates (λ (M K : List ℕ). Marked (marksOf (c .before .before .before .before .before .before .before .before .before .before .before .before .before .before .before .before .before .before .before .before .before .args .w .now)) M × Search (logOf (c .before .before .before .before .before .before .before .before .before .before .before .before .before .before .before .before .before .before .before .before .before .args .used) (c .before .before .before .before .before .before .before .before .before .before .before .before .before .before .before .before .before .before .before .before .before .args .w .now)) (posOf (c .before .before .before .before .before .before .before .before .before .before .before .before .before .before .before .before .before .before .before .before .before .args .w .now)) (cellsOf (c .before .before .before .before .before .before .before .before .before .before .before .before .before .before .before .before .before .before .before .before .before .args .w .now)) M K (donesOf (c .before .before .pass .last .0)) (c .before .before .before .before .before .before .before .before .before .before .before .before .before .before .before .before .before .before .before .before .before .args .a) (c .before .before .before .before .before .before .before .before .before .before .before .before .before .before .before .before .before .before .before .loop .h - 1) (c .before .before .before .before .before .before .before .before .before .before .before .before .before .before .before .before .before .before .before .loop .clock + 1)) (c .before .before .pass .ensures) (marked-store (marksOf (c .before .before .before .before .before .before .before .before .before .before .before .before .before .before .before .before .before .before .before .before .before .args .w .now)) (marksOf (c .before .before .before .before .before .before .before .before .before .before .before .before .before .before .before .before .before .before .before .loop .w)) _ (c .before .before .before .before .before .before .before .before .before .before .before .before .before .before .before .before .stack-get .result) (c .before .before .before .before .before .before .before .before .before .before .before .before .before .before .before .before .before .before .before .loop .clock) (c .before .before .before .before .before .before .before .before .before .before .before .before .before .before .before .before .before .before .before .loop .inv .2) (c .before .before .before .before .before .before .mark-put .ensures .mark) (omega (arith, (subst (λ (x : ℕ). x < (c .before .before .before .before .before .before .before .before .before .before .before .before .before .before .before .before .before .before .before .before .before .args .a)) (sym (c .before .before .before .before .before .before .before .before .before .before .before .before .before .before .before .before .stack-get .ensures .is)) ((c .before .before .before .before .before .before .before .before .before .before .before .before .before .before .before .before .before .before .before .loop .inv .3) .inside (c .before .before .before .before .before .before .before .before .before .before .before .before .before .before .before .before .before .before .before .loop .h - 1) (omega arith))), (c .before .before .before .before .before .before .before .before .before .before .before .before .before .before .before .before .before .before .before .before .before .pre .2 .fits) .fitM, length-mark (c .before .before .before .before .before .before .before .before .before .before .before .before .before .before .before .before .before .before .before .loop .inv .0), length-mark (c .before .before .before .before .before .before .before .before .before .before .before .before .before .before .before .before .before .before .before .before .before .pre .0))) (λ z. omega (arith, (c .before .before .before .before .before .before .before .before .before .before .before .before .before .before .before .before .before .before .before .loop .inv .3) .two)), subst (λ (K : List ℕ). Search (logOf (c .before .before .before .before .before .before .before .before .before .before .before .before .before .before .before .before .before .before .before .before .before .args .used) (c .before .before .before .before .before .before .before .before .before .before .before .before .before .before .before .before .before .before .before .before .before .args .w .now)) (posOf (c .before .before .before .before .before .before .before .before .before .before .before .before .before .before .before .before .before .before .before .before .before .args .w .now)) (cellsOf (c .before .before .before .before .before .before .before .before .before .before .before .before .before .before .before .before .before .before .before .before .before .args .w .now)) (marksOf (c .before .before .before .before .before .before .mark-put .last .0)) K (donesOf (c .before .before .pass .last .0)) (c .before .before .before .before .before .before .before .before .before .before .before .before .before .before .before .before .before .before .before .before .before .args .a) (c .before .before .before .before .before .before .before .before .before .before .before .before .before .before .before .before .before .before .before .loop .h - 1) (c .before .before .before .before .before .before .before .before .before .before .before .before .before .before .before .before .before .before .before .loop .clock + 1)) (sym (c .before .before .before .before .before .before .mark-put .ensures .stack)) (passed (logOf (c .before .before .before .before .before .before .before .before .before .before .before .before .before .before .before .before .before .before .before .before .before .args .used) (c .before .before .before .before .before .before .before .before .before .before .before .before .before .before .before .before .before .before .before .before .before .args .w .now)) (posOf (c .before .before .before .before .before .before .before .before .before .before .before .before .before .before .before .before .before .before .before .before .before .args .w .now)) (cellsOf (c .before .before .before .before .before .before .before .before .before .before .before .before .before .before .before .before .before .before .before .before .before .args .w .now)) (marksOf (c .before .before .before .before .before .before .before .before .before .before .before .before .before .before .before .before .before .before .before .loop .w)) (stackOf (c .before .before .before .before .before .before .before .before .before .before .before .before .before .before .before .before .before .before .before .loop .w)) (donesOf (c .before .before .before .before .before .before .before .before .before .before .before .before .before .before .before .before .before .before .before .loop .w)) (c .before .before .before .before .before .before .before .before .before .before .before .before .before .before .before .before .before .before .before .before .before .args .a) (c .before .before .before .before .before .before .before .before .before .before .before .before .before .before .before .before .before .before .before .loop .h) (c .before .before .before .before .before .before .before .before .before .before .before .before .before .before .before .before .before .before .before .loop .clock) (c .before .before .before .before .before .before .before .before .before .before .before .before .before .before .before .before .before .before .before .loop .inv .3) (c .before .before .before .before .before .before .before .before .before .before .before .before .before .before .before .before .before .before .before .loop .h - 1) (c .before .before .before .before .before .before .before .before .before .before .before .before .before .before .before .before .stack-get .result) (c .before .before .before .before .before .before .before .before .before .before .before .before .before .before .done-get .result) (omega arith) (c .before .before .before .before .before .before .before .before .before .before .before .before .before .before .before .before .stack-get .ensures .is) (c .before .before .before .before .before .before .before .before .before .before .before .before .before .before .done-get .ensures .is) (subst (λ (x : ℕ). ChildAt (logOf (c .before .before .before .before .before .before .before .before .before .before .before .before .before .before .before .before .before .before .before .before .before .args .used) (c .before .before .before .before .before .before .before .before .before .before .before .before .before .before .before .before .before .before .before .before .before .args .w .now)) (cellsOf (c .before .before .before .before .before .before .before .before .before .before .before .before .before .before .before .before .before .before .before .before .before .args .w .now)) x Last) (ap (λ (x : ℕ). x + 3 + (c .before .before .before .before .before .before .before .before .before .before .before .before .before .before .done-get .result)) ((got-pos (c .before .before .before .before .before .before .before .before .before .before .before .before .before .before .before .before .before .before .before .loop .inv .1) (c .before .before .before .before .before .before .before .before .before .before .before .before .pos-get .ensures)) .is)) (subst (ChildAt (logOf (c .before .before .before .before .before .before .before .before .before .before .before .before .before .before .before .before .before .before .before .before .before .args .used) (c .before .before .before .before .before .before .before .before .before .before .before .before .before .before .before .before .before .before .before .before .before .args .w .now)) (cellsOf (c .before .before .before .before .before .before .before .before .before .before .before .before .before .before .before .before .before .before .before .before .before .args .w .now)) (c .before .before .before .before .before .before .before .before .before .before .before .before .pos-get .result + 3 + (c .before .before .before .before .before .before .before .before .before .before .before .before .before .before .done-get .result))) (c .before .before .before .before .before .before .before .before .enum-told .given .1) (searched-at (c .before .before .before .before .before .before .before .before .before .before .before .before .before .before .before .before .before .before .before .before .before .args .used) (λ (W : List Word) (P T : List ℕ). ChildAt W T (c .before .before .before .before .before .before .before .before .before .before .before .before .pos-get .result + 3 + c .before .before .before .before .before .before .before .before .before .before .before .before .before .before .done-get .result) (c .before .before .before .before .before .before .before .before .before .before .look .result)) (c .before .before .before .before .before .before .before .before .before .before .before .before .before .before .before .before .before .before .before .loop .inv .1) (c .before .before .before .before .before .before .before .before .before .before .look .ensures)))) ((c .before .before .before .before .before .before .before .before .before .before .before .before .before .before .before .before .before .before .before .before .before .pre .2 .fits) .apps) _ (c .before .before .before .before .before .before .mark-put .ensures .mark) (omega (arith, (subst (λ (x : ℕ). x < (c .before .before .before .before .before .before .before .before .before .before .before .before .before .before .before .before .before .before .before .before .before .args .a)) (sym (c .before .before .before .before .before .before .before .before .before .before .before .before .before .before .before .before .stack-get .ensures .is)) ((c .before .before .before .before .before .before .before .before .before .before .before .before .before .before .before .before .before .before .before .loop .inv .3) .inside (c .before .before .before .before .before .before .before .before .before .before .before .before .before .before .before .before .before .before .before .loop .h - 1) (omega arith))), (c .before .before .before .before .before .before .before .before .before .before .before .before .before .before .before .before .before .before .before .before .before .pre .2 .fits) .fitM, length-mark (c .before .before .before .before .before .before .before .before .before .before .before .before .before .before .before .before .before .before .before .loop .inv .0), length-mark (c .before .before .before .before .before .before .before .before .before .before .before .before .before .before .before .before .before .before .before .before .before .pre .0))) _ (λ p. subst (λ (D : List ℕ). Stored D (c .before .before .before .before .before .before .before .before .before .before .before .before .before .before .before .before .before .before .before .loop .h - 1 - 1) (getD D (c .before .before .before .before .before .before .before .before .before .before .before .before .before .before .before .before .before .before .before .loop .h - 1 - 1) 0 + 1) (donesOf (c .before .before .pass .last .0))) (c .before .before .before .before .before .before .mark-put .ensures .done) (c .before .before .pass .ensures .some p)) (λ z. c .before .before .pass .ensures .none z ∙ c .before .before .before .before .before .before .mark-put .ensures .done) (omega (arith, (c .before .before .before .before .before .before .before .before .before .before .before .before .before .before .before .before .before .before .before .loop .inv .3) .count, (c .before .before .before .before .before .before .before .before .before .before .before .before .before .before .before .before .before .before .before .loop .inv .3) .two, (c .before .before .before .before .before .before .before .before .before .before .before .before .before .before .before .before .before .before .before .before .before .pre .2 .fits) .fitD, length-done (c .before .before .before .before .before .before .before .before .before .before .before .before .before .before .before .before .before .before .before .loop .inv .0), length-done (c .before .before .before .before .before .before .before .before .before .before .before .before .before .before .before .before .before .before .before .before .before .pre .0))))) in (laid-after (laid-after (c .before .before .before .before .before .before .before .before .before .before .before .before .before .before .before .before .before .before .before .loop .inv .0) (c .before .before .before .before .before .before .mark-put .ensures .rest)) (c .before .before .pass .ensures .rest), outside-then (outside-then (c .before .before .before .before .before .before .before .before .before .before .before .before .before .before .before .before .before .before .before .loop .inv .1) (c .before .before .before .before .before .before .mark-put .ensures .rest)) (c .before .before .pass .ensures .rest), x .0, x .1)
 
 enum-told-2 : tie.Need-enum-told-2 Inv-loop μ-loop
 enum-told-2 c = search needs
@@ -120,4 +125,4 @@ returns-2 : tie.Need-returns-2 Inv-loop μ-loop
 returns-2 c = let z : (c .before .loop .h) ≡ 0 = omega arith in (drained-done (logOf (c .before .before .before .args .used) (c .before .before .before .args .w .now)) (posOf (c .before .before .before .args .w .now)) (cellsOf (c .before .before .before .args .w .now)) (marksOf (c .before .before .before .args .w .now)) (c .before .before .before .args .a) (marksOf (c .before .loop .w)) (stackOf (c .before .loop .w)) (donesOf (c .before .loop .w)) (c .before .loop .clock) (subst (λ (x : ℕ). Search (logOf (c .before .before .before .args .used) (c .before .before .before .args .w .now)) (posOf (c .before .before .before .args .w .now)) (cellsOf (c .before .before .before .args .w .now)) (marksOf (c .before .loop .w)) (stackOf (c .before .loop .w)) (donesOf (c .before .loop .w)) (c .before .before .before .args .a) x (c .before .loop .clock)) z (c .before .loop .inv .3)) (c .before .loop .inv .2), c .before .loop .inv .1)
 
 pub drain-spec : {M : Type 1} → statement M
-drain-spec = tie.close (tie.spec Inv-loop μ-loop loop-holds sub-top stack-get-requires done-get-requires pos-get-requires add-look add-look-2 look-requires enum-told mark-put-requires add-clock loop-less loop-again enum-told-2 add-done-put done-put-requires loop-less-2 loop-again-2 enum-known-d mark-get-requires place-requires add-h loop-less-3 loop-again-3 same-length returns add-done-put-2 done-put-requires-2 loop-less-4 loop-again-4 same-length-2 returns-2)
+drain-spec = tie.close (tie.spec Inv-loop μ-loop loop-holds sub-top stack-get-requires done-get-requires pos-get-requires add-look add-look-2 look-requires enum-told mark-put-requires add-clock pass-requires loop-less loop-again enum-told-2 add-done-put done-put-requires loop-less-2 loop-again-2 enum-known-d mark-get-requires place-requires add-h loop-less-3 loop-again-3 same-length returns add-done-put-2 done-put-requires-2 loop-less-4 loop-again-4 same-length-2 returns-2)
