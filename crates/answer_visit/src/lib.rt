@@ -1,6 +1,6 @@
 // A search over the applications of a term, arguments first: it numbers the unknowns by first appearance, and makes the length of each
-// application's text known when its arguments are done. No application is entered twice, so it takes no more time than there are
-// words, however long the text is.
+// application's text known when its arguments are done. No application is entered twice, so that each argument is looked at twice,
+// however long the text is.
 ghost use Prim.Native.Nat.{_<_};
 ghost use Rattle.mem_numbers.specs.Numbers.{triples};
 ghost use Rattle.work_tables.specs.Tables.{cellsOf, posOf, logOf, Laid, Logged};
@@ -11,9 +11,9 @@ ghost use Rattle.answer_visit.specs.Visiting.{Numbering, CanBegin, Begun
 use mem_variables::Variable;
 
 // How the search goes on: the height of the stack, and the unknowns that were met.
-pub struct Stand {
-    pub high: usize,
-    pub count: usize,
+struct Stand {
+    high: usize,
+    count: usize,
 }
 
 // Numbers the unbound class `r` if it was not met before. Answers how many were met.
