@@ -1,3 +1,4 @@
+use mathlib.Core.Path.{_∙_, refl}
 -- `read_bench::counted` meets its contract. Assumes nothing.
 use native.Mathlib.Omega.{arith}
 use Rattle.read_bench.proofs.Saying.{five-stored}
@@ -11,37 +12,37 @@ long-count-requires : tie.Need-long-count-requires
 long-count-requires c κs = search needs
 
 same-length : tie.Need-same-length
-same-length c = search needs
+same-length c = refl
 
 returns : tie.Need-returns
 returns c = search needs
 
 same-length-2 : tie.Need-same-length-2
-same-length-2 c = search needs
+same-length-2 c = refl
 
 returns-2 : tie.Need-returns-2
 returns-2 c = search needs
 
 same-length-3 : tie.Need-same-length-3
-same-length-3 c = search needs
+same-length-3 c = refl
 
 returns-3 : tie.Need-returns-3
 returns-3 c = search needs
 
 same-length-4 : tie.Need-same-length-4
-same-length-4 c = search needs
+same-length-4 c = refl
 
 returns-4 : tie.Need-returns-4
 returns-4 c = search needs
 
 same-length-5 : tie.Need-same-length-5
-same-length-5 c = search needs
+same-length-5 c = refl
 
 returns-5 : tie.Need-returns-5
 returns-5 c = search needs
 
 same-length-6 : tie.Need-same-length-6
-same-length-6 c = search needs
+same-length-6 c = refl
 
 returns-6 : tie.Need-returns-6
 returns-6 c = search needs
@@ -62,7 +63,7 @@ long-put-requires-5 : tie.Need-long-put-requires-5
 long-put-requires-5 c κs = search needs
 
 same-length-7 : tie.Need-same-length-7
-same-length-7 c = search needs
+same-length-7 c = c .before .before .long-put5 .kept .0 ∙ c .before .before .before .before .before .before .long-put4 .kept .0 ∙ c .before .before .before .before .before .before .before .before .before .before .long-put3 .kept .0 ∙ c .before .before .before .before .before .before .before .before .before .before .before .before .before .before .long-put2 .kept .0 ∙ c .before .before .before .before .before .before .before .before .before .before .before .before .before .before .before .before .before .before .long-put .kept .0
 
 returns-7 : tie.Need-returns-7
 returns-7 c = five-stored (omega (arith, c .before .before .before .before .before .before .before .before .before .before .before .before .before .before .before .before .before .before .before .before .before .before .before .before .before .before .long-count .ensures .is)) (c .before .before .before .before .before .before .before .before .before .before .before .before .before .before .before .before .before .before .long-put .ensures) (c .before .before .before .before .before .before .before .before .before .before .before .before .before .before .long-put2 .ensures) (c .before .before .before .before .before .before .before .before .before .before .long-put3 .ensures) (c .before .before .before .before .before .before .long-put4 .ensures) (c .before .before .long-put5 .ensures)

@@ -1,4 +1,4 @@
-use mathlib.Core.Path.{refl}
+use mathlib.Core.Path.{refl, _∙_}
 use mathlib.Core.List.{_∷_, []}
 use native.Mathlib.Omega.{arith}
 use borrow.Author.Tests.{not-true, not-false}
@@ -24,10 +24,10 @@ emit-requires : tie.Need-emit-requires
 emit-requires c κs = record { value = omega arith }
 
 same-length : tie.Need-same-length
-same-length c = search needs
+same-length c = c .before .before .before .emit .kept .0 ∙ c .before .before .before .before .before .before .before .before .before .before .before .before .variable .kept .1 .0
 
 same-length-2 : tie.Need-same-length-2
-same-length-2 c = search needs
+same-length-2 c = c .before .before .before .before .before .before .before .before .before .before .before .before .variable .kept .1 .1 .1 .1 .0
 
 returns : tie.Need-returns
 returns c = record { to = let p = is-done (to-part 1 (c .before .before .before .before .before .before .before .before .before .before .before .before .before .before .before .before .before .before .args .id ∷ []) _ _ _ _ _ _ _ _ refl (c .before .before .before .before .before .before .before .before .before .before .before .before .variable .result) (c .before .before .before .before .before .before .before .before .before .before .before .before .variable .ensures)) (c .before .before .before .before .before .before .v .given .1) in omega (arith, p .at, p .long, (emit-no (End) (c .before .before .before .emit .result) (c .before .before .before .emit .ensures) (not-true (c .before .before .before .emit .result) (c .if1 .taken))) .full) }
@@ -42,28 +42,28 @@ enum-told-2 : tie.Need-enum-told-2
 enum-told-2 c = search needs
 
 same-length-3 : tie.Need-same-length-3
-same-length-3 c = search needs
+same-length-3 c = c .before .before .before .emit .kept .0 ∙ c .before .before .before .before .before .before .before .before .before .before .before .before .variable .kept .1 .0
 
 same-length-4 : tie.Need-same-length-4
-same-length-4 c = search needs
+same-length-4 c = c .before .before .before .before .before .before .before .before .before .before .before .before .variable .kept .1 .1 .1 .1 .0
 
 returns-2 : tie.Need-returns-2
 returns-2 c = last-on (c .before .before .before .before .before .before .before .before .before .before .before .before .before .before .before .before .before .before .pre .0) (to-part 1 (c .before .before .before .before .before .before .before .before .before .before .before .before .before .before .before .before .before .before .args .id ∷ []) _ _ _ _ _ _ _ _ refl (c .before .before .before .before .before .before .before .before .before .before .before .before .variable .result) (c .before .before .before .before .before .before .before .before .before .before .before .before .variable .ensures)) (c .before .before .before .before .before .before .v .given .1) (emit-yes {w = End} (c .before .before .before .emit .result) (c .before .before .before .emit .ensures) (not-false (c .before .before .before .emit .result) (c .if1 .left)))
 
 same-length-5 : tie.Need-same-length-5
-same-length-5 c = search needs
+same-length-5 c = c .before .before .before .before .before .before .variable .kept .1 .0
 
 same-length-6 : tie.Need-same-length-6
-same-length-6 c = search needs
+same-length-6 c = c .before .before .before .before .before .before .variable .kept .1 .1 .1 .1 .0
 
 returns-3 : tie.Need-returns-3
 returns-3 c = record { to = is-many (to-part 1 (c .before .before .before .before .before .before .before .before .before .before .before .before .args .id ∷ []) _ _ _ _ _ _ _ _ refl (c .before .before .before .before .before .before .variable .result) (c .before .before .before .before .before .before .variable .ensures)) (c .enum-told .given .1) }
 
 same-length-7 : tie.Need-same-length-7
-same-length-7 c = search needs
+same-length-7 c = c .before .before .before .before .before .before .variable .kept .1 .0
 
 same-length-8 : tie.Need-same-length-8
-same-length-8 c = search needs
+same-length-8 c = c .before .before .before .before .before .before .variable .kept .1 .1 .1 .1 .0
 
 returns-4 : tie.Need-returns-4
 returns-4 c = record { to = omega (arith, is-full (to-part 1 (c .before .before .before .before .before .before .before .before .before .before .before .before .args .id ∷ []) _ _ _ _ _ _ _ _ refl (c .before .before .before .before .before .before .variable .result) (c .before .before .before .before .before .before .variable .ensures)) (c .enum-told2 .given .1)) }
