@@ -212,6 +212,7 @@ fn hard_walk(parts: usize) -> Case {
 fn splitting_inside(parts: usize) -> Case {
     let rules = format!("{WAIT}p := ((Y : (Y = a ? true ; Y = b ? true)) ? true).\n");
     let guards = (parts / 32).clamp(1, 16);
+    // a guard has 14 parts, and some 26 once it is split
     let (query, mut before, at) = among(&vec!["p"; guards], parts.saturating_sub(26 * guards));
     let more = [(2, 0), (5, 0), (4, 3), (5, 3), (1, 6), (1, 8)];
     for guard in (0..guards).rev() {

@@ -18,7 +18,7 @@ use Rattle.answer_stack.specs.Slots.{numbersOf, placesOf, begunOf, Answered}
 unfoldable pub knownOf : List ℕ → List ℕ
 knownOf L = longs (cut 479232 487424 L)
 
--- nothing else was changed than this and what the traversal keeps
+-- nothing else was changed than the known lengths and what the traversal keeps
 abbrev pub Counted : List ℕ → List ℕ → Type 0
 Counted L X = Outside 335872 487424 L X
 

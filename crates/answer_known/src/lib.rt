@@ -22,7 +22,7 @@ pub fn known_put(w: &mut [u8], k: usize, v: usize)
     mem_parts::put4(w, 479232, 487424, k, v);
 }
 
-// No class was met, and no length is known.
+// Forgets all: no class was met, and no length is known.
 pub fn forget(w: &mut [u8])
     requires { ⌜ Laid (now w) ⌝ }
     ensures { λ _. ⌜ Numbered (numbersOf (now (w .exit))) [] 0 65535 × NoneKnown (knownOf (now (w .exit))) × Counted (now (w .entry)) (now (w .exit)) ⌝ }

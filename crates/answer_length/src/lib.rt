@@ -1,4 +1,4 @@
-// The length of an answer's text, counted no further than a bound. Each application is looked at once, however often the text shows it.
+// The length of an answer's text, counted no further than a bound. Each application is entered once, however often the text shows it.
 ghost use mathlib.Core.Path.{_≡_};
 ghost use mathlib.Core.Bool.{false};
 ghost use mathlib.Core.List.{map, []};
@@ -21,7 +21,7 @@ ghost use Rattle.answer_length.specs.Long.{BoundLong};
 use answer_turn::Wrote;
 use mem_variables::Variable;
 
-// `at` and one binding: the name of node `v`, ` = `, and the term of `x`, with `count` unknowns met before it.
+// The length `at` and that of one binding behind it: the name of node `v`, ` = `, and the term of `x`, with `count` unknowns met before.
 fn binding(
     w: &mut [u8],
     used: usize,
@@ -44,7 +44,7 @@ fn binding(
     Wrote { at: e, count: c }
 }
 
-// The bindings of the `n` query variables, `n` not 0, where no unknown was met and no length is known.
+// The length of the bindings of the `n` query variables, `n` not 0, where no unknown was met and no length is known.
 fn bindings(w: &mut [u8], used: usize, table: &[u8], vars: &[u8], n: usize, m: usize) -> usize
     requires { ⌜ Laid (now w) × Logged used × (m < 4294967294) × Shown (triples (now table)) (logOf used (now w)) (posOf (now w)) (cellsOf (now w)) × CanLine (triples (now table)) (triples (now vars)) × Numbered (numbersOf (now w)) [] 0 65535 × NoneKnown (knownOf (now w)) × (n ≡ length (triples (now vars))) × (0 < n) ⌝ }
     ensures { λ r. ⌜ (r ≡ cap m (length (whole (triples (now (table .entry))) (triples (now (vars .entry))) (logOf used (now (w .entry))) (posOf (now (w .entry))) (cellsOf (now (w .entry)))))) × Counted (now (w .entry)) (now (w .exit)) ⌝ }
@@ -79,7 +79,7 @@ fn line_length(w: &mut [u8], used: usize, table: &[u8], vars: &[u8], m: usize) -
 }
 
 // Where the line of an answer ends in `out`, which is left as it is: its length + 1 if the line is longer. A length is kept in four
-// bytes, so in a slice of 4 GiB the text itself is counted.
+// bytes, so in a slice of 4 GiB less two bytes, or more, the text itself is counted.
 pub fn text_end(w: &mut [u8], used: usize, table: &[u8], vars: &[u8], out: &mut [u8]) -> usize
     requires { ⌜ Laid (now w) × Logged used × Shown (triples (now table)) (logOf used (now w)) (posOf (now w)) (cellsOf (now w)) × CanLine (triples (now table)) (triples (now vars)) ⌝ }
     ensures { λ r. ⌜ Put (line-text (map (named (triples (now (table .entry)))) (triples (now (vars .entry)))) (terms (term-in (triples (now (table .entry))) (logOf used (now (w .entry))) (posOf (now (w .entry))) (cellsOf (now (w .entry)))) (range 0 (length (triples (now (vars .entry))))))) false (now (out .entry)) 0 (now (out .exit)) r × Counted (now (w .entry)) (now (w .exit)) ⌝ }

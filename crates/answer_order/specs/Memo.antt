@@ -9,7 +9,8 @@ use Rattle.solve_explores.specs.Search.{cellOf}
 use Rattle.answer_text.specs.Lengths.{term-length, cap}
 use Rattle.answer_walk.specs.Numbered.{Numbered}
 
--- all unknowns of a term were met, so that its text is what it will be; an entry says its length, counted no further than m
+-- all unknowns of a term were met, so that its text is what it will be; its entry e is one more than its length, counted no
+-- further than m
 pub record Measured (t : Term) (s : List ℕ) (m e : ℕ) : Type 0 where
   pub seen : Seen t s
   pub is : e ≡ suc (cap m (term-length t s))

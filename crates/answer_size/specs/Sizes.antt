@@ -23,7 +23,7 @@ pub record CanMeasure (P T M G : List ℕ) (x m : ℕ) : Type 0 where
   pub met : Met (term-in names words P T) T M G count m seen
   pub done : Done (term-in names words P T) T G seen x
 
--- and r is the length of its text by any in which it is
+-- and r is the length of its text, by whatever names, words and met classes it is done
 pub record Sized (P T M G : List ℕ) (x m r : ℕ) : Type 0 where
   pub is : (N : List ℕ) (W : List Word) → Shown N W P T → (s : List ℕ) (c : ℕ) → Met (term-in N W P T) T M G c m s → Done (term-in N W P T) T G s x → r ≡ cap m (term-length (term-in N W P T x) s)
 

@@ -21,7 +21,7 @@ pub fn plus(m: usize, a: usize, n: usize) -> usize
         return m + 1;
     }
     if m - a < n {
-        return m + 1; // the sum may be too large
+        return m + 1; // the sum itself may not fit a `usize`
     }
     a + n
 }

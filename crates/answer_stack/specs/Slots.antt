@@ -1,7 +1,8 @@
 -- What the traversal of an answer keeps in the working slice, behind the solver's log. Assumes nothing.
 --   from      table                                                 entries   bytes each
 --   335,872   numbers of unknowns, one entry for each class          65,536   2
---   466,944   the stack: positions of applications in the log         2,048   4
+--   466,944   the stack: applications, by their positions in the log   2,048   4
+--             (answer_turn) or by their numbers (answer_visit)
 --   475,136   the stack: how many arguments of each were begun        2,048   2
 use mathlib.Core.Path.{_≡_, refl, ap, sym, _∙_, subst}
 use mathlib.Core.List.{List}

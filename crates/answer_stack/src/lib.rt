@@ -29,7 +29,7 @@ pub fn clear(w: &mut [u8])
     mem_parts::zero(w, 335872, 466944);
 }
 
-// The position of the application at `i` of the stack.
+// The application at `i` of the stack, by its position in the log or by its number, as it was put.
 pub fn place_get(w: &[u8], i: usize) -> usize
     requires { ⌜ CanRead (now w) 2048 i ⌝ }
     ensures { λ p. ⌜ Got (placesOf (now (w .entry))) i 4294967296 p ⌝ }
@@ -37,7 +37,7 @@ pub fn place_get(w: &[u8], i: usize) -> usize
     mem_parts::get4(w, 466944, 475136, i)
 }
 
-// Makes `p` the position at `i` of the stack.
+// Makes `p` the application at `i` of the stack.
 fn place_put(w: &mut [u8], i: usize, p: usize)
     requires { ⌜ CanWrite (now w) 2048 i 4294967296 p ⌝ }
     ensures { λ _. ⌜ PutPlace (now (w .entry)) i p (now (w .exit)) ⌝ }

@@ -33,7 +33,7 @@ pub record Opened (N : List ℕ) (W : List Word) (P T I K M G : List ℕ) (x₀ 
   pub open′ : Open (Done (term-in N W P T) T G s) W P T I K x₀ h
   pub left : met-by (term-in N W P T) (lefts W P I K h) s ≡ F
 
--- y may be visited, by some names and words, and was
+-- y may be visited, by some names and words; `Begun` says that it was
 pub record CanBegin (P T I K M G : List ℕ) (y h c : ℕ) : Type 0 where
   pub names : List ℕ
   pub words : List Word
@@ -44,6 +44,7 @@ pub record CanBegin (P T I K M G : List ℕ) (y h c : ℕ) : Type 0 where
   pub final : List ℕ
   pub state : Pending names words P T I K M G root y h c most seen final
 
+-- the search stands open again, with fewer turns left
 pub record Step (N : List ℕ) (W : List Word) (P T I′ K′ M′ G′ : List ℕ) (x₀ h′ c′ m : ℕ) (F : List ℕ) (turns-left : ℕ) : Type 0 where
   pub seen : List ℕ
   pub state : Opened N W P T I′ K′ M′ G′ x₀ h′ c′ m seen F
@@ -52,7 +53,7 @@ pub record Step (N : List ℕ) (W : List Word) (P T I′ K′ M′ G′ : List �
 pub record Begun (P T I K M G : List ℕ) (y h c : ℕ) (I′ K′ M′ G′ : List ℕ) (h′ c′ : ℕ) : Type 0 where
   pub step : (N : List ℕ) (W : List Word) → Shown N W P T → (x₀ m : ℕ) (s F : List ℕ) → Pending N W P T I K M G x₀ y h c m s F → Step N W P T I′ K′ M′ G′ x₀ h′ c′ m F (nodes (term-in N W P T y) + turns (term-in N W P T) (lefts W P I K h))
 
--- a turn may be made, and was
+-- a turn may be made; `Turned` says that it was
 pub record CanTurn (N : List ℕ) (W : List Word) (P T I K M G : List ℕ) (h c m : ℕ) : Type 0 where
   pub root : ℕ
   pub seen : List ℕ
@@ -67,7 +68,7 @@ pub record Finished (N : List ℕ) (W : List Word) (P T I K M G : List ℕ) (h c
   pub met : (x₀ : ℕ) (s F : List ℕ) → Opened N W P T I K M G x₀ h c m s F → Met (term-in N W P T) T M′ G′ c′ m F
   pub done : (x₀ : ℕ) (s F : List ℕ) → Opened N W P T I K M G x₀ h c m s F → Done (term-in N W P T) T G′ F x₀
 
--- x may be visited with all below it, and was
+-- x may be visited with all below it; `Visited` says that it was
 pub record CanVisit (N : List ℕ) (W : List Word) (P T M G : List ℕ) (x c m : ℕ) : Type 0 where
   pub low : x < 65535
   pub seen : List ℕ

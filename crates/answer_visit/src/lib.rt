@@ -1,6 +1,6 @@
 // A search over the applications of a term, arguments first: it numbers the unknowns by first appearance, and makes the length of each
-// application's text known when its arguments are done. No application is entered twice, so that each argument is looked at twice,
-// however long the text is.
+// application's text known when its arguments are done. Each application is entered once, and each of its arguments looked at
+// twice, to be visited and to be measured, however long the text is.
 ghost use Prim.Native.Nat.{_<_};
 ghost use Rattle.mem_numbers.specs.Numbers.{triples};
 ghost use Rattle.work_tables.specs.Tables.{cellsOf, posOf, logOf, Laid, Logged};

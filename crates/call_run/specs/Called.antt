@@ -27,8 +27,8 @@ pub record RunCalled (t b u b′ u′ : List ℕ) (x : ℕ) : Type 0 where
   pub run : RunTo t b (length u) b′ x
   pub working : u′ ≡ replicate (length u) 0
 
--- nothing is refused before the first step is tried: neither the text nor a slice nor the store; the solver has
--- been told nothing
+-- nothing is refused before the first step is tried: neither the text nor a slice nor the store; and the solver's
+-- tables are idle
 pub record CanRun (t b u : List ℕ) : Type 0 where
   pub steps : List Step
   pub reads : read-steps t ≡ ok steps

@@ -1,5 +1,5 @@
 // The solver asked of the stores around a position of a configuration. Between two questions nothing is told and no variable is marked,
-// so that a question costs what it tells and not what the tables hold.
+// so that a question costs what it tells and not what the tables hold; but where the stores have no solution all cells are made zero.
 ghost use mathlib.Core.List.{[], _++_};
 ghost use Prim.Native.Nat.{_+_, _<_, _≤_};
 ghost use lib.ListN.{length};
@@ -13,7 +13,7 @@ ghost use Rattle.rule_solve.specs.Idle.{Idle, CanQuiet};
 use rule_tells::Around;
 use solve_quiet::Calm;
 
-// Makes the tables those of a beginning, whatever they held.
+// Makes all cells and all marks of locals zero: nothing is told and no variable is marked, whatever the slice held.
 pub fn ready(w: &mut [u8])
     requires { ⌜ Laid (now w) ⌝ }
     ensures { λ _. ⌜ Idle (now (w .exit)) × Outside 0 401408 (now (w .entry)) (now (w .exit)) ⌝ }
