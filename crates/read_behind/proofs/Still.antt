@@ -64,6 +64,7 @@ module _ {text query : List ℕ} (c h u o g : List ℕ) {d a v k m : ℕ} (read 
               omega (arith, loaded-within .order, z .order .long, length-shorts o′),
               omega (arith, loaded-within .goal, z .goal .long, length-words g′),
               omega (arith, loaded-within .cells, z .cells .long, length-triples c′));
+          few = read .few;
           root = read .root;
           parents = λ i p l. omega (arith, cell-same i l, read .parents i p l);
           used = λ i l. omega (arith, first-same v (shorts o) (shorts o′) 0 order-first i l, read .used i l);

@@ -133,6 +133,7 @@ module _ {text query N D : List ℕ} {R : List Word} {Q : List ℕ} {G : List Wo
                     reads-program = p .answer .reads;
                     reads-query = y .1;
                     room = (p .answer .room, p .answer .inside, q .answer .few, q .answer .inside, q .answer .lexicon .trie .room .cells);
+                    few = λ ts h. omega (arith, p .answer .spare ts h, q .answer .nodes);
                     root = omega (arith, q .answer .lexicon .nodes);
                     parents = q .answer .lexicon .trie .parents;
                     used = q .answer .used;

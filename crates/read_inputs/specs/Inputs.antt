@@ -4,15 +4,18 @@
 use mathlib.Core.Path.{_≡_}
 use mathlib.Core.Logic.{_⊎_}
 use mathlib.Core.List.{List, [], map}
+use mathlib.Core.Option.{some}
 use Prim.Native.Nat.{ℕ, _+_, _*_, _-_, _/_, _≤_, _<_}
 use lib.ListN.{length, getD, take, drop, replicate}
 use Rattle.constraint.specs.Constraint.{In}
 use Rattle.akl.specs.Base.{Name, refused, ok}
 use Rattle.akl.specs.Syntax.{Program}
+use Rattle.akl.specs.Token.{Token, tokens}
 use Rattle.akl.specs.Reader.{Query, read-program, read-query}
 use Rattle.mem_words.specs.declared.Word.{Word}
 use Rattle.read_nodes.specs.Spell.{named}
 use Rattle.read_nodes.specs.Trie.{Roomy}
+use Rattle.read_lexed.specs.Marks.{marks}
 use Rattle.layout.specs.Layout.{stmt-words, program-words}
 use Rattle.read_pieces.specs.Reads.{Spelling, heads}
 use Rattle.refusals.specs.Refusals.{numberOf}
@@ -27,6 +30,8 @@ pub record Loaded (text query N′ D′ : List ℕ) (R′ : List Word) (Q′ : L
   pub reads-query : read-query program query ≡ ok goal
   -- the counts are within the tables
   pub room : (d ≤ length D′) × (a ≤ length R′) × (v ≤ length Q′) × (b ≤ length G′) × (m ≤ length N′)
+  -- beside the nine nodes that are there at first, at most one for each byte of the texts, and one less for each mark of the program
+  pub few : (ts : List Token) → tokens text ≡ some ts → m + marks ts ≤ 9 + length text + length query
   -- the names are a trie: there is a root, and a parent is lower
   pub root : 1 ≤ m
   pub parents : (i : ℕ) → 0 < i → i < m → getD N′ i 0 / 256 < i

@@ -14,6 +14,7 @@ use Rattle.read_trie.specs.Names.{grown-none}
 use Rattle.read_names.specs.Interning.{CanIntern, Interned}
 use Rattle.read_trie.specs.Outcome.{kept-none}
 use Rattle.read_lexed.specs.Codes.{kindNo, tokenAt, Fit, kind-small, mark-any, token-at}
+use Rattle.read_lexed.specs.Marks.{mark-in, mark-most, mark-none}
 
 -- what may be coded: a token has a byte at least
 pub record CanCode (text : List ℕ) (at len : ℕ) (N H S : List ℕ) (n : ℕ) : Type 0 where
@@ -27,6 +28,8 @@ pub record Coded (text : List ℕ) (k : Kind) (at len : ℕ) (N : List ℕ) (n :
   pub fit : Fit m c
   pub token : tokenAt N′ c ≡ tokenOf k (take len (drop at text))
   pub few : m ≤ n + len
+  -- a mark makes no node and has a byte
+  pub spare : m + mark-in (tokenOf k (take len (drop at text))) ≤ n + len
 
 abbrev pub Code : List ℕ → Kind → ℕ → ℕ → List ℕ → List ℕ → List ℕ → ℕ → List ℕ → List ℕ → List ℕ → Child → Type 0
 Code text k at len N H S n N′ H′ S′ (At c m) = Coded text k at len N n N′ H′ S′ c m
@@ -52,14 +55,15 @@ coded-name {text} {N} {H} {S} {N′} {H′} {S′} {at} {len} {n} {i} {m} {c} k 
             fit = record { kind = omega arith; number = omega (arith, A .inside); above = λ z. omega arith; mark = λ z. absurd (omega arith) };
             token = token-at N′ k i c e ∙ ap (tokenOf k) (A .name);
             few = A .few;
+            spare = omega (arith, A .few, mark-none k (take len (drop at text)) h);
           };
     }
 
 pub coded-full : {text N H S N′ H′ S′ : List ℕ} {at len n : ℕ} (k : Kind) → Interned text at len N H S n N′ H′ S′ Full → Encoded text k at len N H S n N′ H′ S′ Full
 coded-full k I = record { kept = I .kept; code = I .number }
 
-pub coded-mark : {text N H S : List ℕ} {at len n c : ℕ} (k : Kind) → Trie N H S n → 3 ≤ kindNo k → c ≡ kindNo k → Encoded text k at len N H S n N H S (At c n)
-coded-mark {text} {N} {H} {S} {at} {len} {n} {c} k T h e =
+pub coded-mark : {text N H S : List ℕ} {at len n c : ℕ} (k : Kind) → 1 ≤ len → Trie N H S n → 3 ≤ kindNo k → c ≡ kindNo k → Encoded text k at len N H S n N H S (At c n)
+coded-mark {text} {N} {H} {S} {at} {len} {n} {c} k g T h e =
     let s = kind-small k in
     let b : c ≡ kindNo k + 0 * 256 = omega arith in
     record {
@@ -71,5 +75,6 @@ coded-mark {text} {N} {H} {S} {at} {len} {n} {c} k T h e =
             fit = record { kind = omega arith; number = omega (arith, T .root); above = λ z. absurd (omega arith); mark = λ z. omega arith };
             token = token-at N k 0 c b ∙ mark-any k (named N 0) (take len (drop at text)) h;
             few = omega arith;
+            spare = omega (arith, mark-most (tokenOf k (take len (drop at text))));
           };
     }

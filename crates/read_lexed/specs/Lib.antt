@@ -1,4 +1,5 @@
 pub mod Codes
+pub mod Marks
 pub mod Encoded
 pub mod Table
 pub mod Once

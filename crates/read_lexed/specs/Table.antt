@@ -1,7 +1,7 @@
 -- The table of a text's token codes, and what is true while it is filled. Assumes nothing.
 use mathlib.Core.Path.{_≡_, refl, ap, ap₂, sym, _∙_, subst}
 use mathlib.Core.List.{List, [], _∷_, _++_, map, append-nil}
-use mathlib.Core.Option.{Option, some, none}
+use mathlib.Core.Option.{Option, some, none, Option·some-injective}
 use Prim.Native.Nat.{ℕ, zero, suc, _+_, _<_, _≤_}
 use native.Mathlib.Numerals.{add-one}
 use native.Mathlib.Nat.{le-of-suc-le-suc}
@@ -25,6 +25,7 @@ use Rattle.read_trie.specs.Outcome.{kept-none, kept-twice}
 use Rattle.read_lexed.specs.declared.Lexed.{Lexed}
 use Rattle.read_lexed.specs.declared.Lexed.the-variants as lexed
 use Rattle.read_lexed.specs.Codes.{tokenAt, Fit, token-kept, fit-more}
+use Rattle.read_lexed.specs.Marks.{mark-in, marks, marks-last}
 use Rattle.read_lexed.specs.Encoded.{Coded, Encoded}
 
 -- The first k codes of K′ are the text's tokens, their names spelled by N′.
@@ -36,6 +37,15 @@ pub record Table (text : List ℕ) (N : List ℕ) (n : ℕ) (N′ H′ S′ K′
   pub inside : k ≤ length K′
   pub short : k ≤ length text
   pub few : m ≤ n + length text
+  -- marks make no node, and each has a byte
+  pub spare : m + marks (map (tokenAt N′) (take k K′)) ≤ n + length text
+
+-- the marks of the text's tokens, however they were found
+pub table-spare : {text N N′ H′ S′ K′ : List ℕ} {n k m : ℕ} → Table text N n N′ H′ S′ K′ k m → (ts : List akl.Token) → akl.tokens text ≡ some ts → m + marks ts ≤ n + length text
+table-spare {N′ = N′} {K′ = K′} {k = k} t ts e =
+    let z : map (tokenAt N′) (take k K′) ≡ ts = Option·some-injective (map (tokenAt N′) (take k K′)) ts (sym (t .says) ∙ e) in
+    let w : marks (map (tokenAt N′) (take k K′)) ≡ marks ts = ap marks z in
+    omega (arith, t .spare)
 
 abbrev pub Answer : List ℕ → List ℕ → List ℕ → List ℕ → List ℕ → ℕ → List ℕ → List ℕ → List ℕ → List ℕ → Lexed → Type 0
 Answer text K N H S n K′ N′ H′ S′ (lexed.All k m) = Table text N n N′ H′ S′ K′ k m
@@ -65,6 +75,7 @@ pub record Sofar (text K N H S : List ℕ) (n : ℕ) (K′ N′ H′ S′ : List
   pub short : k ≤ at
   pub inside : at ≤ length text
   pub few : m ≤ n + at
+  pub spare : m + marks (map (tokenAt N′) (take k K′)) ≤ n + at
 
 onto-none : (o : Option (List akl.Token)) → o ≡ onto [] o
 onto-none none = refl
@@ -86,6 +97,7 @@ map-first {B} f g (suc k) (x ∷ l) h e =
     ap₂ (λ (y : B) (w : List B). y ∷ w) (e 0 (omega arith)) (map-first f g k l (le-of-suc-le-suc h) (λ j i. e (suc j) (omega arith)))
 
 pub sofar-none : (text K N H S : List ℕ) (n : ℕ) → Trie N H S n → Sofar text K N H S n K N H S 0 0 n
+unfolding marks
 sofar-none text K N H S n T =
     record {
       trie = T;
@@ -98,6 +110,7 @@ sofar-none text K N H S n T =
       short = omega arith;
       inside = omega arith;
       few = omega arith;
+      spare = omega arith;
     }
 
 module _ {text K N H S : List ℕ} {n : ℕ} {K′ N′ H′ S′ : List ℕ} {at k m : ℕ} (Z : Sofar text K N H S n K′ N′ H′ S′ at k m) where
@@ -116,6 +129,7 @@ module _ {text K N H S : List ℕ} {n : ℕ} {K′ N′ H′ S′ : List ℕ} {a
               inside = Z .room;
               short = omega (arith, Z .short, Z .inside);
               few = omega (arith, Z .few, Z .inside);
+              spare = omega (arith, Z .spare, Z .inside);
             };
       }
 
@@ -161,6 +175,7 @@ module _ {text K N H S : List ℕ} {n : ℕ} {K′ N′ H′ S′ : List ℕ} {a
           short = omega (arith, Z .short, M .behind, M .some, M .past);
           inside = M .inside;
           few = omega (arith, Z .few, C .few, M .behind, M .past);
+          spare = omega (arith, more, Z .spare, C .spare, M .behind, M .past);
         }
       where
         C : Coded text kind from len N′ m N″ H″ S″ c m′
@@ -178,6 +193,9 @@ module _ {text K N H S : List ℕ} {n : ℕ} {K′ N′ H′ S′ : List ℕ} {a
             ∙ map-snoc (tokenAt N″) (take k K′) c
             ∙ ap (λ (w : List akl.Token). w ++ (tokenAt N″ c ∷ [])) (map-first (tokenAt N″) (tokenAt N′) k K′ (omega arith) (λ j g. token-kept (Z .trie) (C .grown) (getD K′ j 0) (Z .fit j g .number)))
             ∙ ap (λ (t : akl.Token). old ++ (t ∷ [])) (C .token)
+
+        more : marks (map (tokenAt N″) (take (k + 1) K″)) ≡ marks old + mark-in (tokenOf kind (take len (drop from text)))
+        more = ap marks new ∙ marks-last old (tokenOf kind (take len (drop from text)))
 
         fit′ : (j : ℕ) → j < k + 1 → Dec (j < k) → Fit m′ (getD K″ j 0)
         fit′ j g (yes l) = subst (Fit m′) (sym (stored-other j 0 s (λ e. omega arith))) (fit-more (Z .fit j l) (C .grown .more))

@@ -17,6 +17,7 @@ use Rattle.akl.specs.Reader as akl
 use Rattle.mem_words.specs.declared.Word.{Word}
 use Rattle.read_nodes.specs.Spell.{named}
 use Rattle.read_nodes.specs.Trie.{Grown}
+use Rattle.read_lexed.specs.Table.{table-spare}
 use Rattle.read_pieces.specs.Reads.{Spelling, heads}
 use Rattle.read_texts.specs.declared.Readable.the-variants.{Yes, Long, Odd, Short}
 use Rattle.read_texts.specs.Texts.{Answered}
@@ -79,6 +80,7 @@ module _ {text K N H S T K′ N′ H′ S′ : List ℕ} {n k m : ℕ} {L B₁ :
               lexicon = subst (Lexicon N′ H′ S′) (sym e) (a .answer .entries .lexicon);
               grown = subst (Grown N n N′) (sym e) (a .answer .entries .table .grown);
               few = omega (arith, e, a .answer .entries .table .few);
+              spare = λ ts h. omega (arith, e, table-spare (a .answer .entries .table) ts h);
               inside = x .answer .2;
               room = x .answer .1;
               numbers = λ c h. omega (arith, x .answer .3 c h, l .binds, e);

@@ -2,16 +2,19 @@
 -- words in O′. N, H, S are the trie of names.
 use mathlib.Core.Path.{_≡_}
 use mathlib.Core.List.{List, [], map}
+use mathlib.Core.Option.{some}
 use Prim.Native.Nat.{ℕ, _+_, _*_, _/_, _≤_, _<_}
 use lib.ListN.{length, take}
 use Rattle.constraint.specs.Constraint.{In}
 use Rattle.akl.specs.Base.{Name, refused, ok}
 use Rattle.akl.specs.Limits.{program-bytes}
 use Rattle.akl.specs.Syntax.{Program}
+use Rattle.akl.specs.Token.{Token, tokens}
 use Rattle.akl.specs.Reader.{read-program}
 use Rattle.mem_words.specs.declared.Word.{Word}
 use Rattle.read_nodes.specs.Spell.{named}
 use Rattle.read_nodes.specs.Trie.{Grown, Roomy, Kept}
+use Rattle.read_lexed.specs.Marks.{marks}
 use Rattle.layout.specs.Layout.{program-words}
 use Rattle.read_pieces.specs.Reads.{Spelling, heads}
 use Rattle.read_lexicon.specs.Lexicon.{Lexicon}
@@ -28,6 +31,8 @@ pub record Taken (text N : List ℕ) (n : ℕ) (N′ H′ S′ D′ : List ℕ) 
   pub lexicon : Lexicon N′ H′ S′ m
   pub grown : Grown N n N′ m
   pub few : m ≤ n + length text
+  -- marks make no node, and each has a byte
+  pub spare : (ts : List Token) → tokens text ≡ some ts → m + marks ts ≤ n + length text
   pub inside : k ≤ length O′
   pub room : d ≤ length D′
   pub numbers : (c : ℕ) → In c (take d D′) → c / 256 < m

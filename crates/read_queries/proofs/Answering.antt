@@ -94,6 +94,7 @@ module _ {text K N H S T K′ N′ H′ S′ : List ℕ} {n k m : ℕ} {D L B₁
             record {
               lexicon = subst (Lexicon N′ H′ S′) (sym (x .answer .0)) (a .answer .entries .lexicon);
               grown = subst (Grown N n N′) (sym (x .answer .0)) (a .answer .entries .table .grown);
+              nodes = omega (arith, x .answer .0, a .answer .entries .table .few);
               few = x .answer .1;
               inside = x .answer .2;
               used = λ g h. omega (arith, x .answer .4 g h, l .binds, x .answer .0);

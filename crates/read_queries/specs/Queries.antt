@@ -35,6 +35,8 @@ pub record Says (N′ : List ℕ) (O′ : List Word) (Q′ : List ℕ) (v k m : 
 pub record Taken (text N : List ℕ) (n : ℕ) (D N′ H′ S′ : List ℕ) (O′ : List Word) (Q′ : List ℕ) (v k m : ℕ) : Type 0 where
   pub lexicon : Lexicon N′ H′ S′ m
   pub grown : Grown N n N′ m
+  -- at most a node for each byte
+  pub nodes : m ≤ n + length text
   pub few : v ≤ length Q′
   pub inside : k ≤ length O′
   -- the numbers of its variables are numbers of names

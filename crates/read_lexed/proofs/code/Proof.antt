@@ -10,7 +10,7 @@ kind-no-requires : tie.Need-kind-no-requires
 kind-no-requires c κs = search needs
 
 returns : tie.Need-returns
-returns c = coded-mark (c .before .before .before .before .before .before .args .kind) (c .before .before .before .before .before .before .pre .intern .trie) (omega arith) (c .before .kind-no .ensures)
+returns c = coded-mark (c .before .before .before .before .before .before .args .kind) (c .before .before .before .before .before .before .pre .some) (c .before .before .before .before .before .before .pre .intern .trie) (omega arith) (c .before .kind-no .ensures)
 
 intern-requires : tie.Need-intern-requires
 intern-requires c κs = search needs
