@@ -30,7 +30,7 @@ extern "C" {
 #endif
 
 /* Lengths, in bytes. Longer slices do: of a store only the first AKL_STORE_BYTES are read and written. */
-#define AKL_STORE_BYTES 270429    /* a store; shorter is refused by 8 */
+#define AKL_STORE_BYTES 245853    /* a store; shorter is refused by 8 */
 #define AKL_WORK_BYTES 524288     /* a working slice; shorter is refused by 8 */
 #define AKL_PROGRAM_BYTES 16384   /* a program; longer is refused by 1 */
 #define AKL_QUERY_BYTES 4096      /* a query; longer is refused by 1 */

@@ -36,15 +36,15 @@ use Rattle.call_answer.proofs.Outcomes.{of-16, of-17, of-text}
 -- ---------------------------------------------------------------------------------------------
 -- Where the answer stands.
 
-module _ (b : List ℕ) (n c j : ℕ) (ec : c ≡ words-in b) (fits : 184413 + 3 * c ≤ length b) where
+module _ (b : List ℕ) (n c j : ℕ) (ec : c ≡ words-in b) (fits : 159837 + 3 * c ≤ length b) where
   abbrev W : List Word
-  W = words (cut 184413 (184413 + 3 * c) b)
+  W = words (cut 159837 (159837 + 3 * c) b)
 
   many : length W ≡ c
   many =
-      let l : length (cut 184413 (184413 + 3 * c) b) ≡ 3 * c = length-cut 184413 (184413 + 3 * c) b fits ∙ (omega arith) in
+      let l : length (cut 159837 (159837 + 3 * c) b) ≡ 3 * c = length-cut 159837 (159837 + 3 * c) b fits ∙ (omega arith) in
       let q : 3 * c / 3 ≡ c = omega arith in
-      length-words (cut 184413 (184413 + 3 * c) b) ∙ ap (λ (k : ℕ). k / 3) l ∙ q
+      length-words (cut 159837 (159837 + 3 * c) b) ∙ ap (λ (k : ℕ). k / 3) l ∙ q
 
   meant-here : (h : HoldsState b) → Meant W (rules-words (h .state)) (h .state)
   meant-here h = config-meant b c (h .state) ec (h .holds)
@@ -83,7 +83,7 @@ module _ (b : List ℕ) (n u : ℕ) (X : List ℕ) (ready : AnswerReady b n u X)
   N = triples (cut 18 (18 + 3 * k) b)
 
   abbrev Q : List ℕ
-  Q = triples (cut 184365 (184365 + 3 * v) b)
+  Q = triples (cut 159789 (159789 + 3 * v) b)
 
   abbrev answer-of : HoldsState b → Answer
   answer-of h = (ready .stands h .own, ready .stands h .store)

@@ -52,10 +52,10 @@ module _ (b : List ℕ) (h : HoldsState b) where
   begins : (b ≡ store-bytes most-parts s ++ drop (store-length most-parts) b) × Fits most-parts s
   begins = held-begins most-parts (omega arith) b s (h .holds)
 
-  long : length x ≡ 270429
+  long : length x ≡ 245853
   long = reading.bytes-length most-parts (omega arith) s (begins .1) ∙ lengths .0
 
-  there : (o k : ℕ) → o + 3 * k ≤ 270429 → cut o (o + 3 * k) b ≡ piece o k x
+  there : (o k : ℕ) → o + 3 * k ≤ 245853 → cut o (o + 3 * k) b ≡ piece o k x
   there o k l = cut-piece o k b ∙ ap (piece o k) (begins .0) ∙ piece-front o k x (drop (store-length most-parts) b) (omega (arith, long))
 
   nodes-counted : nodes-in b ≡ suc (length (s .cells))
@@ -67,7 +67,7 @@ module _ (b : List ℕ) (h : HoldsState b) where
   variables-counted = ap (λ (l : List ℕ). getD l 3 0) (numbers-are most-parts (omega arith) s (begins .1) _ b (begins .0))
 
   module _ (k : ℕ) (ek : k ≡ nodes-in b) where
-    pub names-within : 18 + 3 * k ≤ 61485
+    pub names-within : 18 + 3 * k ≤ 159789
     names-within = omega (arith, ek, nodes-counted, begins .1 .nodes, few-nodes)
 
     pub names-there : triples (cut 18 (18 + 3 * k) b) ≡ table s
@@ -77,13 +77,13 @@ module _ (b : List ℕ) (h : HoldsState b) where
         ∙ reading.names-read most-parts (omega arith) s (begins .1)
 
   module _ (v : ℕ) (ev : v ≡ variables-in b) where
-    pub variables-within : 184365 + 3 * v ≤ 184413
+    pub variables-within : 159789 + 3 * v ≤ 159837
     variables-within = omega (arith, ev, variables-counted, begins .1 .variables)
 
-    pub variables-there : triples (cut 184365 (184365 + 3 * v) b) ≡ s .variables
+    pub variables-there : triples (cut 159789 (159789 + 3 * v) b) ≡ s .variables
     variables-there =
-        ap triples (there 184365 v (omega (arith, variables-within)))
-        ∙ ap₂ (λ (o n : ℕ). triples (piece o n x)) (sym (starts .2)) (ev ∙ variables-counted)
+        ap triples (there 159789 v (omega (arith, variables-within)))
+        ∙ ap₂ (λ (o n : ℕ). triples (piece o n x)) (sym (starts .1)) (ev ∙ variables-counted)
         ∙ reading.variables-read most-parts (omega arith) s (begins .1)
 
   pub can-line : CanLine (table s) (s .variables)

@@ -39,33 +39,33 @@ fn above(out: &[u8], q: usize) -> usize
 // Puts the text of the answer that was told, `used` words of the log being used. Its length is computed first, so that `out` is as it was
 // where the text is longer.
 fn put(store: &[u8], work: &mut [u8], used: usize, number: usize, out: &mut [u8]) -> usize
-    requires { ⌜ Laid (now work) × Logged used × (270429 ≤ length (now store)) × AnswerReady (now store) number used (now work) ⌝ }
+    requires { ⌜ Laid (now work) × Logged used × (245853 ≤ length (now store)) × AnswerReady (now store) number used (now work) ⌝ }
     ensures { λ x. ⌜ AnswerOf (now (store .entry)) number (now (out .entry)) (now (out .exit)) x ⌝ }
 {
     let k = mem_parts::get3(store, 0, 18, 1);
     let v = mem_parts::get3(store, 0, 18, 3);
     let a = 18 + 3 * k;
-    let e = 184365 + 3 * v;
-    let r = answer_length::text_end(work, used, &store[18..a], &store[184365..e], out);
+    let e = 159789 + 3 * v;
+    let r = answer_length::text_end(work, used, &store[18..a], &store[159789..e], out);
     if out.len() < r {
         return 17;
     }
-    let q = answer_line::line(work, used, &store[18..a], &store[184365..e], out, true);
+    let q = answer_line::line(work, used, &store[18..a], &store[159789..e], out, true);
     above(out, q)
 }
 
 // The answer of the number `number` of the state that the store holds.
 fn of_state(store: &[u8], work: &mut [u8], number: usize, out: &mut [u8]) -> usize
-    requires { ⌜ Laid (now work) × (270429 ≤ length (now store)) × HoldsState (now store) ⌝ }
+    requires { ⌜ Laid (now work) × (245853 ≤ length (now store)) × HoldsState (now store) ⌝ }
     ensures { λ x. ⌜ AnswerOf (now (store .entry)) number (now (out .entry)) (now (out .exit)) x ⌝ }
 {
     let c = store_views::config_count(store);
-    let e = 184413 + 3 * c;
-    let j = answer_boxes::find(&store[184413..e], work, number);
+    let e = 159837 + 3 * c;
+    let j = answer_boxes::find(&store[159837..e], work, number);
     if j == c {
         return 16;
     }
-    let u = tell(&store[184413..e], work, j);
+    let u = tell(&store[159837..e], work, j);
     put(store, work, u, number, out)
 }
 
@@ -73,7 +73,7 @@ fn of_state(store: &[u8], work: &mut [u8], number: usize, out: &mut [u8]) -> usi
 fn asked(store: &[u8], work: &mut [u8], number: usize, out: &mut [u8]) -> usize
     ensures { λ x. ⌜ AnswerTo (now (store .entry)) (length (now (work .entry))) number (now (out .entry)) (now (out .exit)) x ⌝ }
 {
-    if store.len() < 270429 {
+    if store.len() < 245853 {
         return 8;
     }
     if work.len() < 524288 {

@@ -38,7 +38,7 @@ module _ (b : List ℕ) (w : ℕ) where
   pub to-count : (s : State) (r : ℕ) → slices-short most-parts working-bytes b w ≡ false → held most-parts b ≡ some s → r ≡ size (answers (s .config .root)) → CountTo b w (256 * r)
   to-count s r e h q = record { number = ap (λ (x : ℕ). 256 * x) q ∙ ap₂ count-told (sym e) (sym h) }
 
-pub answered : (b : List ℕ) (w n r : ℕ) → slices-short most-parts working-bytes b w ≡ false → n ≡ words-in b → HoldsState b → CountIs (words (cut 184413 (184413 + 3 * n) b)) r → CountTo b w (256 * r)
+pub answered : (b : List ℕ) (w n r : ℕ) → slices-short most-parts working-bytes b w ≡ false → n ≡ words-in b → HoldsState b → CountIs (words (cut 159837 (159837 + 3 * n) b)) r → CountTo b w (256 * r)
 answered b w n r e en h q = to-count b w (h .state) r e (h .holds) (q .right (h .state) (rules-words (h .state)) (config-meant b n (h .state) en (h .holds)))
 
 -- an and-box is at most one answer

@@ -62,19 +62,19 @@ module _ (t b : List ℕ) (w : ℕ) where
     too-short q = refuses 8 (ap (run-read most-parts working-bytes b w) reads ∙ short-first most-parts working-bytes b w done-with q)
 
     -- 8
-    pub before-store : length b < 270429 → RunTo t b w b 8
+    pub before-store : length b < 245853 → RunTo t b w b 8
     before-store h = too-short (store-short b w h)
 
-    pub before-working : 270429 ≤ length b → w < 524288 → RunTo t b w b 8
+    pub before-working : 245853 ≤ length b → w < 524288 → RunTo t b w b 8
     before-working h g = too-short (working-short b w h g)
 
     -- 9
-    pub before-held : 270429 ≤ length b → 524288 ≤ w → (r : Bool) → r ≡ false → Formed b r → RunTo t b w b 9
+    pub before-held : 245853 ≤ length b → 524288 ≤ w → (r : Bool) → r ≡ false → Formed b r → RunTo t b w b 9
     unfolding run-outcome
     before-held h g r q f = refuses 9 (ap (run-read most-parts working-bytes b w) reads ∙ none-held most-parts working-bytes b w done-with (long-enough b w h g) (none-formed b r q f))
 
     -- none of them
-    pub can-run : (u : List ℕ) → 270429 ≤ length b → Idle u → (r : Bool) → r ≡ true → Formed b r → CanRun t b u
+    pub can-run : (u : List ℕ) → 245853 ≤ length b → Idle u → (r : Bool) → r ≡ true → Formed b r → CanRun t b u
     can-run u h g r q f = record { steps = ks; reads = reads; long = h; idle = g; holds = some-formed b r q f }
 
 -- what the steps lead to goes by the length of the working slice, which no function changes

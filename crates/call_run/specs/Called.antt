@@ -32,6 +32,6 @@ pub record RunCalled (t b u b′ u′ : List ℕ) (x : ℕ) : Type 0 where
 pub record CanRun (t b u : List ℕ) : Type 0 where
   pub steps : List Step
   pub reads : read-steps t ≡ ok steps
-  pub long : 270429 ≤ length b
+  pub long : 245853 ≤ length b
   pub idle : Idle u
   pub holds : HoldsState b

@@ -41,7 +41,7 @@ fn judged(steps: &[u8], store: &mut [u8], work: &mut [u8]) -> usize
     match read_lines::check(steps) {
         Checked::Refused(f) => refusals::number(f) as usize,
         Checked::Steps(_) => {
-            if store.len() < 270429 {
+            if store.len() < 245853 {
                 return 8;
             }
             if work.len() < 524288 {

@@ -18,15 +18,15 @@ use Rattle.store_lent.specs.Lent.{working-bytes}
 use Rattle.check_store.specs.Store.{Formed}
 use Rattle.step_meant.specs.Deciding.{HoldsState}
 
-pub store-short : (b : List ℕ) (w : ℕ) → length b < 270429 → slices-short most-parts working-bytes b w ≡ true
+pub store-short : (b : List ℕ) (w : ℕ) → length b < 245853 → slices-short most-parts working-bytes b w ≡ true
 unfolding slices-short
 store-short b w h = ap (λ (x : Bool). x || ltb w working-bytes) (lt-ltb (length b) (store-length most-parts) (omega (arith, lengths .0, h)))
 
-pub working-short : (b : List ℕ) (w : ℕ) → 270429 ≤ length b → w < 524288 → slices-short most-parts working-bytes b w ≡ true
+pub working-short : (b : List ℕ) (w : ℕ) → 245853 ≤ length b → w < 524288 → slices-short most-parts working-bytes b w ≡ true
 unfolding slices-short
 working-short b w h g = ap₂ (λ (x y : Bool). x || y) (le-ltb (length b) (store-length most-parts) (omega (arith, lengths .0, h))) (lt-ltb w working-bytes g)
 
-pub long-enough : (b : List ℕ) (w : ℕ) → 270429 ≤ length b → 524288 ≤ w → slices-short most-parts working-bytes b w ≡ false
+pub long-enough : (b : List ℕ) (w : ℕ) → 245853 ≤ length b → 524288 ≤ w → slices-short most-parts working-bytes b w ≡ false
 unfolding slices-short
 long-enough b w h g = ap₂ (λ (x y : Bool). x || y) (le-ltb (length b) (store-length most-parts) (omega (arith, lengths .0, h))) (le-ltb w working-bytes g)
 

@@ -46,24 +46,24 @@ module _ (b : List ℕ) (w : ℕ) where
   to-state s r e h q = record { number = ap (λ (x : ℕ). 256 * x) q ∙ ap₂ number-of (sym e) (sym h) }
 
 -- the words of the configuration mean the state that the store holds
-pub config-meant : (b : List ℕ) (n : ℕ) (s : State) → n ≡ words-in b → held most-parts b ≡ some s → Meant (words (cut 184413 (184413 + 3 * n) b)) (rules-words s) s
+pub config-meant : (b : List ℕ) (n : ℕ) (s : State) → n ≡ words-in b → held most-parts b ≡ some s → Meant (words (cut 159837 (159837 + 3 * n) b)) (rules-words s) s
 config-meant b n s en h =
     let p = held-begins most-parts (omega arith) b s h in
     record {
       stands = held-stands most-parts (omega arith) b s h;
-      config = ap (λ (x : ℕ). words (cut 184413 (184413 + 3 * x) b)) en ∙ config-there most-parts (omega arith) s (p .1) _ b (p .0);
+      config = ap (λ (x : ℕ). words (cut 159837 (159837 + 3 * x) b)) en ∙ config-there most-parts (omega arith) s (p .1) _ b (p .0);
       rules = refl;
     }
 
-pub config-fits : (b : List ℕ) (n : ℕ) → n ≡ words-in b → HoldsState b → 184413 + 3 * n ≤ 270429
+pub config-fits : (b : List ℕ) (n : ℕ) → n ≡ words-in b → HoldsState b → 159837 + 3 * n ≤ 245853
 config-fits b n en h =
     let p = held-begins most-parts (omega arith) b (h .state) (h .holds) in
     omega (arith, en, lengths .0, config-within most-parts (omega arith) (h .state) (p .1) _ b (p .0))
 
-pub some-meant : (b : List ℕ) (n : ℕ) → n ≡ words-in b → HoldsState b → MeantSome (words (cut 184413 (184413 + 3 * n) b))
+pub some-meant : (b : List ℕ) (n : ℕ) → n ≡ words-in b → HoldsState b → MeantSome (words (cut 159837 (159837 + 3 * n) b))
 some-meant b n en h = record { some-state = h .state; some-rules = rules-words (h .state); meant = config-meant b n (h .state) en (h .holds) }
 
-pub answered : (b : List ℕ) (w n r : ℕ) → slices-short most-parts working-bytes b w ≡ false → n ≡ words-in b → HoldsState b → StateIs (words (cut 184413 (184413 + 3 * n) b)) r → StateTo b w (256 * r)
+pub answered : (b : List ℕ) (w n r : ℕ) → slices-short most-parts working-bytes b w ≡ false → n ≡ words-in b → HoldsState b → StateIs (words (cut 159837 (159837 + 3 * n) b)) r → StateTo b w (256 * r)
 answered b w n r e en h q = to-state b w (h .state) r e (h .holds) (q .right (h .state) (rules-words (h .state)) (config-meant b n (h .state) en (h .holds)))
 
 -- there are three states

@@ -41,13 +41,13 @@ module _ (b : List ℕ) (w : ℕ) (k : Step) where
   unfolding step-outcome
   too-short e = of-outcome (called (refusal 8) b) 8 b refl (short-first most-parts working-bytes b w done-with e)
 
-  pub short-store : length b < 270429 → StepTo b w k b 8
+  pub short-store : length b < 245853 → StepTo b w k b 8
   short-store h = too-short (store-short b w h)
 
-  pub short-working : 270429 ≤ length b → w < 524288 → StepTo b w k b 8
+  pub short-working : 245853 ≤ length b → w < 524288 → StepTo b w k b 8
   short-working h g = too-short (working-short b w h g)
 
-  module _ (h : 270429 ≤ length b) (g : 524288 ≤ w) where
+  module _ (h : 245853 ≤ length b) (g : 524288 ≤ w) where
     -- the store holds no state
     pub not-held : (t : Bool) → t ≡ false → Formed b t → StepTo b w k b 9
     unfolding step-outcome

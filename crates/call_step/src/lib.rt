@@ -14,7 +14,7 @@ fn judged(
 ) -> usize
     ensures { λ x. ⌜ StepTo (now (store .entry)) (length (now (work .entry))) (step-of rule (place .0) argument) (now (store .exit)) x ⌝ }
 {
-    if store.len() < 270429 {
+    if store.len() < 245853 {
         return 8; // the store
     }
     if work.len() < 524288 {

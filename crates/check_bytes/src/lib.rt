@@ -11,16 +11,13 @@ fn unused(store: &[u8], parts: usize, h: Header) -> bool
     requires { ⌜ Laid parts (now store) × Read parts (numbers-in (now store)) h ⌝ }
     ensures { λ r. ⌜ Decides (Unused parts (now (store .entry))) r ⌝ }
 {
-    if !check_zeros::zeros(store, 18 + 3 * h.nodes, 61485) {
+    if !check_zeros::zeros(store, 18 + 3 * h.nodes + 3 * h.rules, 159789) {
         return false;
     }
-    if !check_zeros::zeros(store, 61485 + 3 * h.rules, 184365) {
+    if !check_zeros::zeros(store, 159789 + 3 * h.variables, 159837) {
         return false;
     }
-    if !check_zeros::zeros(store, 184365 + 3 * h.variables, 184413) {
-        return false;
-    }
-    check_zeros::zeros(store, 184413 + 3 * h.words, 184413 + 42 * parts)
+    check_zeros::zeros(store, 159837 + 3 * h.words, 159837 + 42 * parts)
 }
 
 // The header of a store for configurations of at most `parts` parts, if it is within its bounds and all that is not used is zero.

@@ -16,15 +16,15 @@ use Rattle.store_lent.specs.Lent.{working-bytes}
 use Rattle.check_store.specs.Store.{Formed}
 use Rattle.check_call.specs.Refused.{check-of, check-refusal}
 
-pub store-short : (b : List ℕ) (w : ℕ) → length b < 270429 → 8 ≡ check-refusal b w
+pub store-short : (b : List ℕ) (w : ℕ) → length b < 245853 → 8 ≡ check-refusal b w
 unfolding check-refusal slices-short
 store-short b w h = ap (λ (x : Bool). check-of (x || ltb w working-bytes) (is-some (held most-parts b))) (sym (lt-ltb (length b) (store-length most-parts) (omega (arith, lengths .0, h))))
 
-pub working-short : (b : List ℕ) (w : ℕ) → 270429 ≤ length b → w < 524288 → 8 ≡ check-refusal b w
+pub working-short : (b : List ℕ) (w : ℕ) → 245853 ≤ length b → w < 524288 → 8 ≡ check-refusal b w
 unfolding check-refusal slices-short
 working-short b w h g = ap₂ (λ (x y : Bool). check-of (x || y) (is-some (held most-parts b))) (sym (le-ltb (length b) (store-length most-parts) (omega (arith, lengths .0, h)))) (sym (lt-ltb w working-bytes g))
 
-pub told : (b : List ℕ) (w : ℕ) (t : Bool) → 270429 ≤ length b → 524288 ≤ w → Formed b t → check-of false t ≡ check-refusal b w
+pub told : (b : List ℕ) (w : ℕ) (t : Bool) → 245853 ≤ length b → 524288 ≤ w → Formed b t → check-of false t ≡ check-refusal b w
 unfolding check-refusal slices-short
 told b w t h g f =
     ap (check-of false) (f .is)

@@ -7,7 +7,7 @@ ghost use Rattle.check_call.specs.Refused.{check-refusal, CheckCalled};
 fn refusal(store: &[u8], work: &mut [u8]) -> usize
     ensures { λ r. ⌜ r ≡ check-refusal (now (store .entry)) (length (now (work .entry))) ⌝ }
 {
-    if store.len() < 270429 {
+    if store.len() < 245853 {
         return 8;
     }
     if work.len() < 524288 {

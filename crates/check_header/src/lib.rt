@@ -27,7 +27,7 @@ fn numbers(h: &[u8], parts: usize) -> Heading
     requires { ⌜ (length (triples (now h)) ≡ 6) × (parts ≤ 65536) ⌝ }
     ensures { λ r. ⌜ Headed parts (triples (now (h .entry))) r ⌝ }
 {
-    if mem_numbers::triple_get(h, 0) != 1 {
+    if mem_numbers::triple_get(h, 0) != 2 {
         return Heading::Wrong;
     }
     let nodes = mem_numbers::triple_get(h, 1);
@@ -39,6 +39,9 @@ fn numbers(h: &[u8], parts: usize) -> Heading
     }
     let rules = mem_numbers::triple_get(h, 2);
     if rules > 40960 {
+        return Heading::Wrong;
+    }
+    if nodes + rules > 53257 {
         return Heading::Wrong;
     }
     let variables = mem_numbers::triple_get(h, 3);

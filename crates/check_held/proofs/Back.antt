@@ -1,5 +1,5 @@
 -- Bytes that hold a well-formed state pass the checks.
-use mathlib.Core.Path.{_≡_, ap, sym, _∙_, subst}
+use mathlib.Core.Path.{_≡_, ap, ap₂, sym, _∙_, subst}
 use mathlib.Core.List.{List, [], _∷_, map}
 use mathlib.Core.Option.{some}
 use Prim.Native.Nat.{ℕ, zero, suc, _+_, _-_, _*_, _≤_}
@@ -16,8 +16,8 @@ use Rattle.mem_words.specs.Words.{words}
 use Rattle.mem_words.specs.Form.{bytes-of, length-bytes-of}
 use Rattle.read_nodes.specs.Spell.{named}
 use Rattle.store_words.specs.Boxes.{node-words}
-use Rattle.store_form.specs.Sizes.{form-number, header-length, names-length, program-length, variables-length, config-length, program-start, variables-start, config-start, store-length}
-use Rattle.store_form.specs.State.{State, table, number-in, well-formed-state}
+use Rattle.store_form.specs.Sizes.{form-number, header-length, program-length, variables-length, config-length, program-start, variables-start, config-start, store-length}
+use Rattle.store_form.specs.State.{State, table, node-count, number-in, well-formed-state}
 use Rattle.store_form.specs.Form.{numbers-bytes, region, rules-words, config-words, header, store-bytes}
 use Rattle.store_form.specs.Holding.{lowered, below, Fits, Holds, piece}
 use Rattle.store_form.proofs.Bytes.{length-numbers-bytes}
@@ -62,7 +62,7 @@ module _ (limit : ℕ) (low : limit ≤ 65536) (b : List ℕ) (s : State) (H : H
   unfolding numbers-in
   numbers-is =
       let p = places limit in
-      ap triples (sym (take-take header-length (store-length limit) b (omega (arith, p .at-program, p .at-variables, p .at-config, p .at-end))))
+      ap triples (sym (take-take header-length (store-length limit) b (omega (arith, p .at-variables, p .at-config, p .at-end))))
       ∙ ap (λ (l : List ℕ). triples (take header-length l)) (H .is)
       ∙ reading.header-read limit low s F
 
@@ -70,7 +70,7 @@ module _ (limit : ℕ) (low : limit ≤ 65536) (b : List ℕ) (s : State) (H : H
   unfolding header
   form-is = ap (λ (h : List ℕ). getD h 0 0) numbers-is
 
-  nodes-is : nodes-in b ≡ suc (length (s .cells))
+  nodes-is : nodes-in b ≡ node-count s
   unfolding header
   nodes-is = ap (λ (h : List ℕ). getD h 1 0) numbers-is
 
@@ -98,15 +98,15 @@ module _ (limit : ℕ) (low : limit ≤ 65536) (b : List ℕ) (s : State) (H : H
   names-is =
       let p = places limit in
       ap (λ (m : ℕ). triples (piece header-length m b)) nodes-is
-      ∙ ap triples (piece-is header-length (suc (length (s .cells))) (omega (arith, F .nodes, p .names, p .at-program, p .at-variables, p .at-config, p .at-end)))
+      ∙ ap triples (piece-is header-length (node-count s) (omega (arith, F .together, p .at-variables, p .at-config, p .at-end)))
       ∙ reading.names-read limit low s F
 
   rules-is : rules-at b ≡ rules-words s
   unfolding rules-at
   rules-is =
       let p = places limit in
-      ap (λ (m : ℕ). words (piece program-start m b)) rules-in-is
-      ∙ ap words (piece-is program-start (length (rules-words s)) (omega (arith, F .rules, p .program, p .at-variables, p .at-config, p .at-end)))
+      ap₂ (λ (k m : ℕ). words (piece (program-start k) m b)) nodes-is rules-in-is
+      ∙ ap words (piece-is (program-start (node-count s)) (length (rules-words s)) (omega (arith, F .together, p .at-program (node-count s), p .at-variables, p .at-config, p .at-end)))
       ∙ reading.rules-read limit low s F
 
   variables-is : variables-at b ≡ s .variables
@@ -136,17 +136,15 @@ module _ (limit : ℕ) (low : limit ≤ 65536) (b : List ℕ) (s : State) (H : H
       ∙ ap (λ (y : List ℕ). getD y (i - o) 0) e
       ∙ region-zero n l r (i - o) (omega arith) (omega arith)
 
-  unused-names : Zeros b (header-length + 3 * nodes-in b) program-start
-  unfolding program-start
-  unused-names =
-      let p = places limit in
-      unused header-length names-length (nodes-in b) (numbers-bytes (table s)) (reading.r2 limit low s F) (reading.at-names limit low s F) (omega (arith, p .at-variables, p .at-config, p .at-end)) (omega (arith, length-numbers-bytes (table s), nodes-is))
-
-  unused-rules : Zeros b (program-start + 3 * rules-in b) variables-start
-  unfolding variables-start
+  unused-rules : Zeros b (program-start (nodes-in b) + 3 * rules-in b) variables-start
   unused-rules =
       let p = places limit in
-      unused program-start program-length (rules-in b) (bytes-of (rules-words s)) (reading.r3 limit low s F) (reading.at-program limit low s F) (omega (arith, p .at-config, p .at-end)) (omega (arith, length-bytes-of (rules-words s), rules-in-is))
+      let o = program-start (node-count s) in
+      let n = program-length (node-count s) in
+      let e = reading.shared limit low s F in
+      subst (λ (k : ℕ). Zeros b (program-start k + 3 * rules-in b) variables-start) (sym nodes-is)
+      (subst (Zeros b (o + 3 * rules-in b)) e
+      (unused o n (rules-in b) (bytes-of (rules-words s)) (reading.r3 limit low s F) (reading.at-program limit low s F) (omega (arith, e, p .at-config, p .at-end)) (omega (arith, length-bytes-of (rules-words s), rules-in-is))))
 
   unused-variables : Zeros b (variables-start + 3 * variables-in b) config-start
   unfolding config-start
@@ -171,11 +169,12 @@ module _ (limit : ℕ) (low : limit ≤ 65536) (b : List ℕ) (s : State) (H : H
       root = omega (arith, nodes-is);
       nodes = omega (arith, nodes-is, F .nodes);
       rules = omega (arith, rules-in-is, F .rules);
+      together = omega (arith, nodes-is, rules-in-is, F .together);
       variables = omega (arith, variables-in-is, F .variables);
       words = omega (arith, words-in-is, F .words);
       next = omega (arith, next-is, F .next);
     };
-    unused = record { names = unused-names; rules = unused-rules; variables = unused-variables; words = unused-words };
+    unused = record { rules = unused-rules; variables = unused-variables; words = unused-words };
     table = record {
       root = ap (λ (N : List ℕ). getD N 0 0) names-is;
       lower = subst (λ (N : List ℕ). T (lowered 1 (drop 1 N))) (sym names-is) (F .lower);

@@ -9,8 +9,8 @@ use Rattle.mem_words.specs.declared.Word.the-variants.{End, Free, Level, Num, P
 use Rattle.mem_numbers.specs.Chunks.{chunks}
 use Rattle.mem_words.specs.Words.{words, word, readWord, classOf, valueOf, word-of}
 use Rattle.mem_words.specs.Form.{Bytes, AllSmall, NoBad, bytes-of, words-bytes}
-use Rattle.store_form.specs.Sizes.{names-length, program-length, variables-length, config-length}
-use Rattle.store_form.specs.State.{State, table, number-in}
+use Rattle.store_form.specs.Sizes.{program-length, variables-length, config-length}
+use Rattle.store_form.specs.State.{State, table, node-count, number-in}
 use Rattle.store_form.specs.Form.{numbers-bytes, region, rules-words, config-words, header, store-bytes}
 use Rattle.store_form.specs.Holding.{Fits}
 use Rattle.store_form.proofs.Spelt.{small-all}
@@ -76,7 +76,7 @@ pub store-below : (limit : ℕ) (s : State) → Fits limit s → Bytes (store-by
 unfolding store-bytes rules-words config-words
 store-below limit s F =
     bytes-append (numbers-bytes (header s)) _ (bytes-numbers (header s))
-    (bytes-region names-length (numbers-bytes (table s)) _ (bytes-numbers (table s))
-    (bytes-region program-length (bytes-of (rules-words s)) _ (bytes-words (rules-words s) (small-all (rules-words s) (F .rules-small)) (program-good (number-in (table s)) (s .program)))
+    (bytes-append (numbers-bytes (table s)) _ (bytes-numbers (table s))
+    (bytes-region (program-length (node-count s)) (bytes-of (rules-words s)) _ (bytes-words (rules-words s) (small-all (rules-words s) (F .rules-small)) (program-good (number-in (table s)) (s .program)))
     (bytes-region variables-length (numbers-bytes (s .variables)) _ (bytes-numbers (s .variables))
     (bytes-region (config-length limit) (bytes-of (config-words s)) [] (bytes-words (config-words s) (small-all (config-words s) (F .words-small)) (node-good (number-in (table s)) (s .config .root) [] tt)) tt))))

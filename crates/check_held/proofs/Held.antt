@@ -2,11 +2,11 @@
 use mathlib.Core.Path.{_≡_, refl, ap, ap₂, sym, _∙_, subst}
 use mathlib.Core.List.{List, [], _∷_, _++_, append-assoc, map}
 use mathlib.Core.Option.{some}
-use Prim.Native.Nat.{ℕ, suc, _+_, _*_, _≤_}
+use Prim.Native.Nat.{ℕ, suc, _+_, _-_, _*_, _≤_}
 use native.Mathlib.Omega.{arith}
 use lib.Dec.{T}
 use lib.ListN.{length, getD, take, drop, length-drop, take-append-drop}
-use lib.Seq.{length-take-le, take-at}
+use lib.Seq.{length-take-le, take-at, drop-drop}
 use Rattle.akl.specs.Base.{all}
 use Rattle.akl.specs.Syntax.{Program}
 use Rattle.akl.specs.Configuration.{goal, Node}
@@ -17,12 +17,13 @@ use Rattle.mem_words.specs.Words.{words, length-words}
 use Rattle.mem_words.specs.Form.{Bytes, NoBad, AllSmall, bytes-of, words-bytes}
 use Rattle.read_nodes.specs.Spell.{named}
 use Rattle.store_words.specs.Boxes.{node-words}
-use Rattle.store_form.specs.Sizes.{most-nodes, most-program-words, header-length, names-length, program-length, variables-length, config-length, program-start, variables-start, config-start, store-length}
-use Rattle.store_form.specs.State.{State, table, number-in, well-formed-state}
+use Rattle.store_form.specs.Sizes.{most-rules, header-length, program-length, variables-length, config-length, program-start, variables-start, config-start, store-length}
+use Rattle.store_form.specs.State.{State, table, node-count, number-in, well-formed-state}
 use Rattle.store_form.specs.Form.{numbers-bytes, region, rules-words, config-words, header, store-bytes}
 use Rattle.store_form.specs.Holding.{Fits, below, piece}
 use Rattle.store_form.proofs.Spelt.{all-small}
 use Rattle.store_form.proofs.Reading.{bytes-length}
+use Rattle.check_zeros.specs.Zeros.{Zeros}
 use Rattle.store_calls.specs.Outcomes.{held}
 use Rattle.store_calls.proofs.Any.{held-iff}
 use Rattle.check_held.specs.Checks.{numbers-in, nodes-in, rules-in, variables-in, words-in, next-in, names-at, rules-at, variables-at, words-at, state-with, Counts, Checks}
@@ -34,26 +35,25 @@ use Rattle.check_held.proofs.Cut.{bytes-take, bytes-piece, triples-byte
 
 pub record Places (limit : ℕ) : Type 0 where
   pub header : header-length ≡ 18
-  pub names : names-length ≡ 3 * most-nodes
-  pub program : program-length ≡ 3 * most-program-words
+  pub program : (n : ℕ) → program-length n ≡ 3 * (most-rules - n)
   pub variables : variables-length ≡ 48
   pub config : config-length limit ≡ 3 * (14 * limit)
-  pub at-program : program-start ≡ header-length + names-length
-  pub at-variables : variables-start ≡ program-start + program-length
+  pub at-program : (n : ℕ) → program-start n ≡ header-length + 3 * n
+  pub at-variables : variables-start ≡ header-length + 3 * most-rules
   pub at-config : config-start ≡ variables-start + variables-length
   pub at-end : store-length limit ≡ config-start + config-length limit
 
 pub places : (limit : ℕ) → Places limit
-unfolding header-length names-length program-length variables-length config-length program-start variables-start config-start store-length
-places limit = record { header = refl; names = refl; program = refl; variables = refl; config = refl; at-program = refl; at-variables = refl; at-config = refl; at-end = refl }
+unfolding header-length program-length variables-length config-length program-start variables-start config-start store-length
+places limit = record { header = refl; program = λ n. refl; variables = refl; config = refl; at-program = λ n. refl; at-variables = refl; at-config = refl; at-end = refl }
 
 -- how much each piece holds
 module _ (limit : ℕ) (b : List ℕ) (long : store-length limit ≤ length b) (C : Counts limit (numbers-in b)) where
   pub names-long : header-length + 3 * nodes-in b ≤ length b
-  names-long = let p = places limit in omega (arith, p .names, p .at-program, p .at-variables, p .at-config, p .at-end, long, C .nodes)
+  names-long = let p = places limit in omega (arith, p .at-variables, p .at-config, p .at-end, long, C .together)
 
-  pub rules-long : program-start + 3 * rules-in b ≤ length b
-  rules-long = let p = places limit in omega (arith, p .program, p .at-variables, p .at-config, p .at-end, long, C .rules)
+  pub rules-long : program-start (nodes-in b) + 3 * rules-in b ≤ length b
+  rules-long = let p = places limit in omega (arith, p .at-program (nodes-in b), p .at-variables, p .at-config, p .at-end, long, C .together)
 
   pub variables-long : variables-start + 3 * variables-in b ≤ length b
   variables-long = let p = places limit in omega (arith, p .variables, p .at-config, p .at-end, long, C .variables)
@@ -71,7 +71,7 @@ module _ (limit : ℕ) (b : List ℕ) (long : store-length limit ≤ length b) (
 
   pub rules-count : length (rules-at b) ≡ rules-in b
   unfolding rules-at
-  rules-count = let l = length-piece program-start (rules-in b) b rules-long in let t = length-words (piece program-start (rules-in b) b) in omega arith
+  rules-count = let l = length-piece (program-start (nodes-in b)) (rules-in b) b rules-long in let t = length-words (piece (program-start (nodes-in b)) (rules-in b) b) in omega arith
 
   pub words-count : length (words-at b) ≡ words-in b
   unfolding words-at
@@ -80,7 +80,7 @@ module _ (limit : ℕ) (b : List ℕ) (long : store-length limit ≤ length b) (
   -- words that were read have values of two bytes, so that every name in them stands in the table
   pub rules-two-bytes : Bytes b → AllSmall (rules-at b)
   unfolding rules-at
-  rules-two-bytes small = words-small (rules-in b) (piece program-start (rules-in b) b) (length-piece program-start (rules-in b) b rules-long) (bytes-piece program-start (rules-in b) b small)
+  rules-two-bytes small = words-small (rules-in b) (piece (program-start (nodes-in b)) (rules-in b) b) (length-piece (program-start (nodes-in b)) (rules-in b) b rules-long) (bytes-piece (program-start (nodes-in b)) (rules-in b) b small)
 
   pub words-two-bytes : Bytes b → AllSmall (words-at b)
   unfolding words-at
@@ -135,9 +135,9 @@ module _ (limit : ℕ) (low : limit ≤ 65536) (b : List ℕ) (small : Bytes b) 
   unfolding variables-at
   variables-bytes = triples-bytes (variables-in b) (piece variables-start (variables-in b) b) (length-piece variables-start (variables-in b) b (variables-long limit b (K .long) (K .counts))) (bytes-piece variables-start (variables-in b) b small)
 
-  rules-bytes : bytes-of (rules-words s) ≡ piece program-start (rules-in b) b
+  rules-bytes : bytes-of (rules-words s) ≡ piece (program-start (nodes-in b)) (rules-in b) b
   unfolding rules-at
-  rules-bytes = ap bytes-of rules-is ∙ words-bytes (rules-in b) (piece program-start (rules-in b) b) (length-piece program-start (rules-in b) b (rules-long limit b (K .long) (K .counts))) (bytes-piece program-start (rules-in b) b small) (subst NoBad (sym (K .rules)) (program-good (number-in (names-at b)) P))
+  rules-bytes = ap bytes-of rules-is ∙ words-bytes (rules-in b) (piece (program-start (nodes-in b)) (rules-in b) b) (length-piece (program-start (nodes-in b)) (rules-in b) b (rules-long limit b (K .long) (K .counts))) (bytes-piece (program-start (nodes-in b)) (rules-in b) b small) (subst NoBad (sym (K .rules)) (program-good (number-in (names-at b)) P))
 
   config-bytes : bytes-of (config-words s) ≡ piece config-start (words-in b) b
   unfolding words-at
@@ -150,11 +150,14 @@ module _ (limit : ℕ) (low : limit ≤ 65536) (b : List ℕ) (small : Bytes b) 
   unfolding numbers-in
   numbers-count = let t = length-triples (take header-length b) in let l = header-count in omega arith
 
+  nodes-are : node-count s ≡ nodes-in b
+  nodes-are = omega (arith, length-drop 1 (names-at b), names-count limit b (K .long) (K .counts), K .counts .root)
+
   header-is : header s ≡ numbers-in b
   unfolding header
   header-is =
-      let m : suc (length (drop 1 (names-at b))) ≡ nodes-in b = omega (arith, length-drop 1 (names-at b), names-count limit b (K .long) (K .counts), K .counts .root) in
-      six-same 1 (suc (length (drop 1 (names-at b)))) (length (rules-words s)) (length (variables-at b)) (length (config-words s)) (getD (numbers-in b) 0 0) (nodes-in b) (rules-in b) (variables-in b) (words-in b) (next-in b)
+      let m : suc (length (drop 1 (names-at b))) ≡ nodes-in b = nodes-are in
+      six-same 2 (suc (length (drop 1 (names-at b)))) (length (rules-words s)) (length (variables-at b)) (length (config-words s)) (getD (numbers-in b) 0 0) (nodes-in b) (rules-in b) (variables-in b) (words-in b) (next-in b)
       (sym (K .counts .form)) m (ap length rules-is ∙ rules-count limit b (K .long) (K .counts)) (variables-count limit b (K .long) (K .counts)) (ap length config-is ∙ words-count limit b (K .long) (K .counts))
       ∙ six (numbers-in b) numbers-count
 
@@ -173,10 +176,10 @@ module _ (limit : ℕ) (low : limit ≤ 65536) (b : List ℕ) (small : Bytes b) 
   r3 = region variables-length (numbers-bytes (variables-at b)) r4
 
   abbrev r2 : List ℕ
-  r2 = region program-length (bytes-of (rules-words s)) r3
+  r2 = region (program-length (node-count s)) (bytes-of (rules-words s)) r3
 
   abbrev r1 : List ℕ
-  r1 = region names-length (numbers-bytes (table s)) r2
+  r1 = numbers-bytes (table s) ++ r2
 
   at-config : drop config-start b ≡ r4 ++ rest
   unfolding store-length
@@ -194,21 +197,26 @@ module _ (limit : ℕ) (low : limit ≤ 65536) (b : List ℕ) (small : Bytes b) 
       ∙ ap₂ (λ (l r : List ℕ). region variables-length l r) (sym variables-bytes) at-config
       ∙ region-append variables-length (numbers-bytes (variables-at b)) r4 rest
 
-  at-program : drop program-start b ≡ r2 ++ rest
-  unfolding variables-start
+  -- where the region of names and program ends
+  shared : program-start (nodes-in b) + program-length (nodes-in b) ≡ variables-start
+  shared = let p = places limit in omega (arith, p .program (nodes-in b), p .at-program (nodes-in b), p .at-variables, K .counts .together)
+
+  at-program : drop (program-start (nodes-in b)) b ≡ r2 ++ rest
   at-program =
       let p = places limit in
-      region-at program-start (rules-in b) program-length b (omega (arith, p .program, K .counts .rules)) (omega (arith, p .at-config, p .at-end, K .long)) (K .unused .rules)
-      ∙ ap₂ (λ (l r : List ℕ). region program-length l r) (sym rules-bytes) at-variables
-      ∙ region-append program-length (bytes-of (rules-words s)) r3 rest
+      let o = program-start (nodes-in b) in
+      let n = program-length (nodes-in b) in
+      region-at o (rules-in b) n b (omega (arith, p .program (nodes-in b), K .counts .together)) (omega (arith, shared, p .at-config, p .at-end, K .long)) (subst (Zeros b (o + 3 * rules-in b)) (sym shared) (K .unused .rules))
+      ∙ ap₂ (λ (l r : List ℕ). region n l r) (sym rules-bytes) (ap (λ (j : ℕ). drop j b) shared ∙ at-variables)
+      ∙ ap (λ (k : ℕ). region (program-length k) (bytes-of (rules-words s)) (r3 ++ rest)) (sym nodes-are)
+      ∙ region-append (program-length (node-count s)) (bytes-of (rules-words s)) r3 rest
 
   at-names : drop header-length b ≡ r1 ++ rest
-  unfolding program-start
+  unfolding piece program-start
   at-names =
-      let p = places limit in
-      region-at header-length (nodes-in b) names-length b (omega (arith, p .names, K .counts .nodes)) (omega (arith, p .at-variables, p .at-config, p .at-end, K .long)) (K .unused .names)
-      ∙ ap₂ (λ (l r : List ℕ). region names-length l r) (sym names-bytes) at-program
-      ∙ region-append names-length (numbers-bytes (table s)) r2 rest
+      sym (take-append-drop (3 * nodes-in b) (drop header-length b))
+      ∙ ap₂ (λ (l r : List ℕ). l ++ r) (sym names-bytes) (drop-drop (3 * nodes-in b) header-length b ∙ at-program)
+      ∙ sym (append-assoc (numbers-bytes (table s)) r2 rest)
 
   whole : b ≡ store-bytes limit s ++ rest
   unfolding store-bytes
@@ -220,10 +228,11 @@ module _ (limit : ℕ) (low : limit ≤ 65536) (b : List ℕ) (small : Bytes b) 
   fits : Fits limit s
   unfolding rules-at words-at
   fits = record {
-    nodes = omega (arith, length-drop 1 (names-at b), names-count limit b (K .long) (K .counts), K .counts .nodes, K .counts .root);
+    nodes = omega (arith, nodes-are, K .counts .nodes);
     lower = K .table .lower;
     apart = K .table .apart;
     rules = omega (arith, ap length rules-is, rules-count limit b (K .long) (K .counts), K .counts .rules);
+    together = omega (arith, nodes-are, ap length rules-is, rules-count limit b (K .long) (K .counts), K .counts .together);
     rules-small = all-small (rules-words s) (subst AllSmall (sym rules-is) (rules-two-bytes limit b (K .long) (K .counts) small));
     variables = omega (arith, variables-count limit b (K .long) (K .counts), K .counts .variables);
     known = subst (λ (m : ℕ). T (all (below m) (variables-at b))) (sym nodes-are) (K .table .known);
@@ -231,9 +240,6 @@ module _ (limit : ℕ) (low : limit ≤ 65536) (b : List ℕ) (small : Bytes b) 
     words-small = all-small (config-words s) (subst AllSmall (sym config-is) (words-two-bytes limit b (K .long) (K .counts) small));
     next = K .counts .next;
   }
-    where
-      nodes-are : suc (length (drop 1 (names-at b))) ≡ nodes-in b
-      nodes-are = omega (arith, length-drop 1 (names-at b), names-count limit b (K .long) (K .counts), K .counts .root)
 
   first : take (store-length limit) b ≡ store-bytes limit s
   first = ap (take (store-length limit)) whole ∙ take-at (store-bytes limit s) rest (store-length limit) (bytes-length limit low s fits)

@@ -17,7 +17,7 @@ use Rattle.mem_words.specs.declared.Word.{Word}
 use Rattle.mem_words.specs.Words.{words}
 use Rattle.read_nodes.specs.Spell.{named}
 use Rattle.store_words.specs.Boxes.{node-words}
-use Rattle.store_form.specs.Sizes.{form-number, most-nodes, most-program-words, part-words, two-bytes, header-length, program-start, variables-start, config-start, store-length}
+use Rattle.store_form.specs.Sizes.{form-number, most-nodes, most-program-words, most-rules, part-words, two-bytes, header-length, program-start, variables-start, config-start, store-length}
 use Rattle.store_form.specs.State.{State, number-in}
 use Rattle.store_form.specs.Holding.{lowered, below, piece}
 use Rattle.check_zeros.specs.Zeros.{Zeros}
@@ -46,7 +46,7 @@ unfoldable pub names-at : List ℕ → List ℕ
 names-at b = triples (piece header-length (nodes-in b) b)
 
 unfoldable pub rules-at : List ℕ → List Word
-rules-at b = words (piece program-start (rules-in b) b)
+rules-at b = words (piece (program-start (nodes-in b)) (rules-in b) b)
 
 unfoldable pub variables-at : List ℕ → List ℕ
 variables-at b = triples (piece variables-start (variables-in b) b)
@@ -67,14 +67,14 @@ pub record Counts (limit : ℕ) (h : List ℕ) : Type 0 where
   pub root : 1 ≤ getD h 1 0
   pub nodes : getD h 1 0 ≤ most-nodes
   pub rules : getD h 2 0 ≤ most-program-words
+  pub together : getD h 1 0 + getD h 2 0 ≤ most-rules
   pub variables : getD h 3 0 ≤ most-query-variables
   pub words : getD h 4 0 ≤ part-words * limit
   pub next : getD h 5 0 < two-bytes
 
--- What is not used of each region is zero.
+-- What is not used of each region is zero, that of names and program being one.
 pub record Unused (limit : ℕ) (b : List ℕ) : Type 0 where
-  pub names : Zeros b (header-length + 3 * nodes-in b) program-start
-  pub rules : Zeros b (program-start + 3 * rules-in b) variables-start
+  pub rules : Zeros b (program-start (nodes-in b) + 3 * rules-in b) variables-start
   pub variables : Zeros b (variables-start + 3 * variables-in b) config-start
   pub words : Zeros b (config-start + 3 * words-in b) (store-length limit)
 

@@ -47,11 +47,11 @@ cut-small a e l b = words-small (cut a e l) (all-bytes (cut a e l) (cut-bytes a 
 pub long-names : (b : List ℕ) (m : ℕ) → 18 + 3 * m ≤ length b → length (triples (cut 18 (18 + 3 * m) b)) ≡ m
 long-names b m h = omega (arith, length-triples (cut 18 (18 + 3 * m) b), length-cut 18 (18 + 3 * m) b h)
 
-pub long-variables : (b : List ℕ) (q : ℕ) → 184365 + 3 * q ≤ length b → length (triples (cut 184365 (184365 + 3 * q) b)) ≡ q
-long-variables b q h = omega (arith, length-triples (cut 184365 (184365 + 3 * q) b), length-cut 184365 (184365 + 3 * q) b h)
+pub long-variables : (b : List ℕ) (q : ℕ) → 159789 + 3 * q ≤ length b → length (triples (cut 159789 (159789 + 3 * q) b)) ≡ q
+long-variables b q h = omega (arith, length-triples (cut 159789 (159789 + 3 * q) b), length-cut 159789 (159789 + 3 * q) b h)
 
-pub long-rules : (b : List ℕ) (r : ℕ) → 61485 + 3 * r ≤ length b → length (words (cut 61485 (61485 + 3 * r) b)) ≡ r
-long-rules b r h = omega (arith, length-words (cut 61485 (61485 + 3 * r) b), length-cut 61485 (61485 + 3 * r) b h)
+pub long-rules : (b : List ℕ) (a r : ℕ) → a + 3 * r ≤ length b → length (words (cut a (a + 3 * r) b)) ≡ r
+long-rules b a r h = omega (arith, length-words (cut a (a + 3 * r) b), length-cut a (a + 3 * r) b h)
 
 untrue : {A : Type 0} → false ≡ true → A
 untrue z = absurd (let y : _≡_ {A = ℕ} 0 1 = ap (λ (b : Bool). elim b as (λ v. ℕ) [ false ↦ 0 | true ↦ 1 ]) z in omega arith)

@@ -25,17 +25,18 @@ unfoldable pub names-of-store : List ℕ → ℕ → List ℕ
 names-of-store b m = triples (cut 18 (18 + 3 * m) b)
 
 unfoldable pub variables-of-store : List ℕ → ℕ → List ℕ
-variables-of-store b q = triples (cut 184365 (184365 + 3 * q) b)
+variables-of-store b q = triples (cut 159789 (159789 + 3 * q) b)
 
-unfoldable pub rules-of-store : List ℕ → ℕ → List Word
-rules-of-store b r = words (cut 61485 (61485 + 3 * r) b)
+unfoldable pub rules-of-store : List ℕ → ℕ → ℕ → List Word
+rules-of-store b m r = words (cut (18 + 3 * m) (18 + 3 * m + 3 * r) b)
 
 pub record CanRules (b : List ℕ) (m r q : ℕ) (L : List ℕ) : Type 0 where
-  pub store : 270429 ≤ length b
+  pub store : 245853 ≤ length b
   pub working : 524288 ≤ length L
   pub some : 1 ≤ m
   pub names : m ≤ 20489
   pub rules : r ≤ 40960
+  pub together : m + r ≤ 53257
   pub variables : q ≤ 16
 
 -- They stand, and the tables in the working slice X have the kinds of the names and the definitions.
@@ -52,5 +53,5 @@ RulesTold N v R m X true = RulesStand N v R m X
 RulesTold N v R m X false = (P : Program) → NamesStand N v → R ≡ program-words (number-in N) P → T (program-passes P) → ⊥
 
 pub record RulesChecked (b : List ℕ) (m r q : ℕ) (L X : List ℕ) (t : Bool) : Type 0 where
-  pub told : RulesTold (names-of-store b m) (variables-of-store b q) (rules-of-store b r) m X t
+  pub told : RulesTold (names-of-store b m) (variables-of-store b q) (rules-of-store b m r) m X t
   pub long : length X ≡ length L

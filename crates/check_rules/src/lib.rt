@@ -8,10 +8,10 @@ pub fn rules(store: &[u8], m: usize, r: usize, q: usize, work: &mut [u8]) -> boo
     ensures { λ t. ⌜ RulesChecked (now (store .entry)) m r q (now (work .entry)) (now (work .exit)) t ⌝ }
 {
     let a = 18 + 3 * m;
-    let d = 184365 + 3 * q;
-    if !check_names::names(&store[18..a], &store[184365..d], work) {
+    let d = 159789 + 3 * q;
+    if !check_names::names(&store[18..a], &store[159789..d], work) {
         return false;
     }
-    let e = 61485 + 3 * r;
-    check_program::program(work, &store[61485..e], m)
+    let e = a + 3 * r;
+    check_program::program(work, &store[a..e], m)
 }

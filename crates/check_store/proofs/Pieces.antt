@@ -24,14 +24,14 @@ pub names-are : (b : List ℕ) (m : ℕ) → m ≡ nodes-in b → names-of-store
 unfolding names-of-store names-at
 names-are b m e = ap triples (cut-piece 18 header-length (nodes-in b) m b (starts .0) e)
 
-pub rules-are : (b : List ℕ) (r : ℕ) → r ≡ rules-in b → rules-of-store b r ≡ rules-at b
-unfolding rules-of-store rules-at
-rules-are b r e = ap words (cut-piece 61485 program-start (rules-in b) r b (starts .1) e)
+pub rules-are : (b : List ℕ) (m r : ℕ) → m ≡ nodes-in b → r ≡ rules-in b → rules-of-store b m r ≡ rules-at b
+unfolding rules-of-store rules-at program-start
+rules-are b m r d e = ap words (cut-piece (18 + 3 * m) (program-start (nodes-in b)) (rules-in b) r b (omega (arith, d, starts .0)) e)
 
 pub variables-are : (b : List ℕ) (q : ℕ) → q ≡ variables-in b → variables-of-store b q ≡ variables-at b
 unfolding variables-of-store variables-at
-variables-are b q e = ap triples (cut-piece 184365 variables-start (variables-in b) q b (starts .2) e)
+variables-are b q e = ap triples (cut-piece 159789 variables-start (variables-in b) q b (starts .1) e)
 
-pub words-are : (b : List ℕ) (c : ℕ) → c ≡ words-in b → words (cut 184413 (184413 + 3 * c) b) ≡ words-at b
+pub words-are : (b : List ℕ) (c : ℕ) → c ≡ words-in b → words (cut 159837 (159837 + 3 * c) b) ≡ words-at b
 unfolding words-at
-words-are b c e = ap words (cut-piece 184413 config-start (words-in b) c b (starts .3) e)
+words-are b c e = ap words (cut-piece 159837 config-start (words-in b) c b (starts .2) e)

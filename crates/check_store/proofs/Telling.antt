@@ -32,10 +32,10 @@ use Rattle.check_store.proofs.Forming.{rules-unformed, goals-formed}
 untrue : {A : Type 0} → false ≡ true → A
 untrue z = absurd (let y : _≡_ {A = ℕ} 0 1 = ap (λ (b : Bool). elim b as (λ v. ℕ) [ false ↦ 0 | true ↦ 1 ]) z in omega arith)
 
-pub as-long : (b : List ℕ) → 270429 ≤ length b → store-length most-parts ≤ length b
+pub as-long : (b : List ℕ) → 245853 ≤ length b → store-length most-parts ≤ length b
 as-long b h = omega (arith, lengths .0, h)
 
-pub can-bytes : (b : List ℕ) → 270429 ≤ length b → Laid most-parts b
+pub can-bytes : (b : List ℕ) → 245853 ≤ length b → Laid most-parts b
 can-bytes b h = record { parts = omega arith; long = as-long b h }
 
 -- the header is within its bounds, or is not
@@ -47,7 +47,7 @@ told-wrong b r e t =
     let w : Counts most-parts (numbers-in b) → Unused most-parts b → ⊥ = subst (BytesTold most-parts b) e t in
     record { is = ap is-some (sym (none-held most-parts (omega arith) b (λ P n D. w (D .counts) (D .unused)))) }
 
-module _ (b : List ℕ) (given : ByteList b) (long : 270429 ≤ length b) (c : Header) (R : Read most-parts (numbers-in b) c) (U : Unused most-parts b) where
+module _ (b : List ℕ) (given : ByteList b) (long : 245853 ≤ length b) (c : Header) (R : Read most-parts (numbers-in b) c) (U : Unused most-parts b) where
   pub can-rules : (L : List ℕ) → 524288 ≤ length L → CanRules b (c .nodes) (c .rules) (c .variables) L
   can-rules L w =
       let C = R .counts in
@@ -57,21 +57,22 @@ module _ (b : List ℕ) (given : ByteList b) (long : 270429 ≤ length b) (c : H
         some = omega (arith, C .root, R .nodes);
         names = omega (arith, C .nodes, R .nodes, bounds .0);
         rules = omega (arith, C .rules, R .rules, bounds .1);
+        together = omega (arith, C .together, R .nodes, R .rules, bounds .3);
         variables = omega (arith, C .variables, R .variables);
       }
 
   few-words : c .words ≤ 28672
   few-words = omega (arith, R .counts .words, R .words)
 
-  pub words-end : 184413 + 3 * c .words ≤ length b
+  pub words-end : 159837 + 3 * c .words ≤ length b
   words-end = omega (arith, few-words, long)
 
-  pub can-goals : (X : List ℕ) → 524288 ≤ length X → CanGoals X (c .nodes) (c .variables) (words (cut 184413 (184413 + 3 * c .words) b))
+  pub can-goals : (X : List ℕ) → 524288 ≤ length X → CanGoals X (c .nodes) (c .variables) (words (cut 159837 (159837 + 3 * c .words) b))
   can-goals X w =
       let C = R .counts in
       record {
         tables = record { long = w; names = omega (arith, C .nodes, R .nodes, bounds .0) };
-        words = omega (arith, length-words (cut 184413 (184413 + 3 * c .words) b), length-cut 184413 (184413 + 3 * c .words) b words-end, few-words);
+        words = omega (arith, length-words (cut 159837 (159837 + 3 * c .words) b), length-cut 159837 (159837 + 3 * c .words) b words-end, few-words);
         variables = omega (arith, C .variables, R .variables);
       }
 
@@ -80,15 +81,15 @@ module _ (b : List ℕ) (given : ByteList b) (long : 270429 ≤ length b) (c : H
 
   moved : (X : List ℕ) (t : Bool) (L : List ℕ) → RulesChecked b (c .nodes) (c .rules) (c .variables) L X t → RulesTold (names-at b) (variables-at b) (rules-at b) (c .nodes) X t
   moved X t L r =
-      subst (λ (W : List Word). RulesTold (names-at b) (variables-at b) W (c .nodes) X t) (rules-are b (c .rules) (R .rules))
-      (subst (λ (v : List ℕ). RulesTold (names-at b) v (rules-of-store b (c .rules)) (c .nodes) X t) (variables-are b (c .variables) (R .variables))
-      (subst (λ (N : List ℕ). RulesTold N (variables-of-store b (c .variables)) (rules-of-store b (c .rules)) (c .nodes) X t) (names-are b (c .nodes) (R .nodes)) (r .told)))
+      subst (λ (W : List Word). RulesTold (names-at b) (variables-at b) W (c .nodes) X t) (rules-are b (c .nodes) (c .rules) (R .nodes) (R .rules))
+      (subst (λ (v : List ℕ). RulesTold (names-at b) v (rules-of-store b (c .nodes) (c .rules)) (c .nodes) X t) (variables-are b (c .variables) (R .variables))
+      (subst (λ (N : List ℕ). RulesTold N (variables-of-store b (c .variables)) (rules-of-store b (c .nodes) (c .rules)) (c .nodes) X t) (names-are b (c .nodes) (R .nodes)) (r .told)))
 
   pub rules-told : (L X : List ℕ) (t : Bool) → t ≡ false → RulesChecked b (c .nodes) (c .rules) (c .variables) L X t → Formed b false
   rules-told L X true e r = untrue (sym e)
   rules-told L X false e r = record { is = rules-unformed b (all-bytes b given) (as-long b long) (R .counts) U (c .nodes) X (moved X false L r) }
 
-  pub goals-told : (L X Y : List ℕ) (t r : Bool) → t ≡ true → RulesChecked b (c .nodes) (c .rules) (c .variables) L X t → GoalsChecked X (c .nodes) (c .variables) (c .next) (words (cut 184413 (184413 + 3 * c .words) b)) Y r → Formed b r
+  pub goals-told : (L X Y : List ℕ) (t r : Bool) → t ≡ true → RulesChecked b (c .nodes) (c .rules) (c .variables) L X t → GoalsChecked X (c .nodes) (c .variables) (c .next) (words (cut 159837 (159837 + 3 * c .words) b)) Y r → Formed b r
   goals-told L X Y true r e s g =
       let h = subst (λ (W : List Word). GoalsChecked X (c .nodes) (c .variables) (c .next) W Y r) (words-are b (c .words) (R .words)) g in
       let k = subst (λ (q : ℕ). GoalsChecked X (c .nodes) q (c .next) (words-at b) Y r) (R .variables) h in

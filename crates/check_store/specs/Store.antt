@@ -10,7 +10,7 @@ use Rattle.store_calls.specs.Outcomes.{held}
 
 -- the slices are as long as documented
 pub record LongEnough (b L : List ℕ) : Type 0 where
-  pub store : 270429 ≤ length b
+  pub store : 245853 ≤ length b
   pub working : 524288 ≤ length L
 
 -- r says whether b holds a well-formed state

@@ -2,7 +2,7 @@
 use check_header::Heading;
 ghost use Rattle.check_store.specs.Store.{LongEnough, Formed};
 
-// Whether the first 270,429 bytes of `store` hold a well-formed program and configuration. The working slice need not be zero before,
+// Whether the first 245,853 bytes of `store` hold a well-formed program and configuration. The working slice need not be zero before,
 // and is not afterwards.
 pub fn formed(store: &[u8], work: &mut [u8]) -> bool
     requires { ⌜ LongEnough (now store) (now work) ⌝ }
@@ -14,8 +14,8 @@ pub fn formed(store: &[u8], work: &mut [u8]) -> bool
             if !check_rules::rules(store, c.nodes, c.rules, c.variables, work) {
                 return false;
             }
-            let e = 184413 + 3 * c.words;
-            check_goals::goals(&store[184413..e], c.nodes, c.variables, c.next, work)
+            let e = 159837 + 3 * c.words;
+            check_goals::goals(&store[159837..e], c.nodes, c.variables, c.next, work)
         }
         Heading::Wrong => false,
     }

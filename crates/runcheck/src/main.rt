@@ -15,10 +15,10 @@ fn text_space() -> [u8; 16385]
 }
 
 // The documented length of a store.
-fn store_space() -> [u8; 270429]
-    ensures { λ r. ⌜ 270429 ≡ length r ⌝ }
+fn store_space() -> [u8; 245853]
+    ensures { λ r. ⌜ 245853 ≡ length r ⌝ }
 {
-    [0; 270429]
+    [0; 245853]
 }
 
 // The documented length of a working slice.

@@ -18,11 +18,12 @@ pub fn fill(
     store: &mut [u8],
 )
     requires { ⌜ CanFill (now store) (now header) (now names) (now rules) (now variables) (now words) m a v n ⌝ }
-    ensures { λ _. ⌜ Filled (now (store .entry)) (take 18 (now (header .entry))) (take (3 * m) (now (names .entry))) (take (3 * a) (now (rules .entry))) (take (3 * v) (now (variables .entry))) (take (3 * n) (now (words .entry))) (now (store .exit)) × Known (now (names .entry)) (now (rules .entry)) (now (variables .entry)) (now (words .entry)) ⌝ }
+    ensures { λ _. ⌜ Filled m (now (store .entry)) (take 18 (now (header .entry))) (take (3 * m) (now (names .entry))) (take (3 * a) (now (rules .entry))) (take (3 * v) (now (variables .entry))) (take (3 * n) (now (words .entry))) (now (store .exit)) × Known (now (names .entry)) (now (rules .entry)) (now (variables .entry)) (now (words .entry)) ⌝ }
 {
     store_regions::put_region(store, 0, 18, header, 18);
-    store_regions::put_region(store, 18, 61485, names, 3 * m);
-    store_regions::put_region(store, 61485, 184365, rules, 3 * a);
-    store_regions::put_region(store, 184365, 184413, variables, 3 * v);
-    store_regions::put_region(store, 184413, 270429, words, 3 * n);
+    let e = 18 + 3 * m;
+    store_regions::put_region(store, 18, e, names, 3 * m);
+    store_regions::put_region(store, e, 159789, rules, 3 * a);
+    store_regions::put_region(store, 159789, 159837, variables, 3 * v);
+    store_regions::put_region(store, 159837, 245853, words, 3 * n);
 }

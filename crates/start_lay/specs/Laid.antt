@@ -29,11 +29,10 @@ use Rattle.start_variables.specs.Widened.{Widened}
 use Rattle.start_fill.specs.Filled.{regions, Filled, Known}
 
 pub record CanLay (L N R Q : List ℕ) (G : List Word) (m a v b : ℕ) : Type 0 where
-  pub store : 270429 ≤ length L
+  pub store : 245853 ≤ length L
   pub names : 3 * m ≤ length N
-  pub few-names : m ≤ 20489
   pub rules : 3 * a ≤ length R
-  pub few-rules : a ≤ 40960
+  pub together : m + a ≤ 53257
   pub variables : v ≤ length Q
   pub few-variables : v ≤ 16
   pub goal : b ≤ length G
@@ -47,7 +46,7 @@ first-header m a v W = form-number ∷ m ∷ a ∷ v ∷ length (first-words v W
 
 -- the bytes
 unfoldable pub first-bytes : List ℕ → List ℕ → List ℕ → List Word → ℕ → ℕ → ℕ → List ℕ
-first-bytes N R Q W m a v = regions (numbers-bytes (first-header m a v W)) (take (3 * m) N) (take (3 * a) R) (numbers-bytes (take v Q)) (bytes-of (first-words v W))
+first-bytes N R Q W m a v = regions m (numbers-bytes (first-header m a v W)) (take (3 * m) N) (take (3 * a) R) (numbers-bytes (take v Q)) (bytes-of (first-words v W))
 
 pub record LaidOut (L N R Q : List ℕ) (W : List Word) (m a v : ℕ) (X : List ℕ) : Type 0 where
   pub list : X ≡ first-bytes N R Q W m a v ++ drop (store-length most-parts) L
@@ -61,7 +60,7 @@ pub laid-out : (L H N R Q U C X : List ℕ) (G : List Word) (m a v b n : ℕ) (O
     → Widened Q v (triples U) → 3 * v ≤ length U
     → Grown O 0 (first-words v (take b G)) (words C) n → 3 * n ≤ length C
     → H ≡ numbers-bytes (form-number ∷ m ∷ a ∷ v ∷ n ∷ v ∷ [])
-    → Filled L (take 18 H) (take (3 * m) N) (take (3 * a) R) (take (3 * v) U) (take (3 * n) C) X
+    → Filled m L (take 18 H) (take (3 * m) N) (take (3 * a) R) (take (3 * v) U) (take (3 * n) C) X
     → Known N R U C
     → LaidOut L N R Q (take b G) m a v X
 unfolding first-bytes
@@ -77,7 +76,7 @@ laid-out L H N R Q U C X G m a v b n O can w lv g lc eh f k =
       list =
           f .list
           ∙ ap (λ (x : List ℕ). x ++ drop (store-length most-parts) L)
-          (ap₂ (λ (x y : List ℕ). regions x (take (3 * m) N) (take (3 * a) R) y (take (3 * n) C)) hh hv ∙ ap (regions (numbers-bytes (first-header m a v (take b G))) (take (3 * m) N) (take (3 * a) R) (numbers-bytes (take v Q))) hc);
+          (ap₂ (λ (x y : List ℕ). regions m x (take (3 * m) N) (take (3 * a) R) y (take (3 * n) C)) hh hv ∙ ap (regions m (numbers-bytes (first-header m a v (take b G))) (take (3 * m) N) (take (3 * a) R) (numbers-bytes (take v Q))) hc);
     }
 
 -- how many words the configuration has

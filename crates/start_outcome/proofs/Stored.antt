@@ -30,14 +30,13 @@ use Rattle.read_inputs.specs.Inputs.{Loaded}
 use Rattle.read_nodes.specs.Spell.{named}
 use Rattle.store_words.specs.Boxes.{local-words}
 use Rattle.store_words.proofs.Sizes.{size-length}
-use Rattle.store_texts.proofs.Programs.{program-words-few}
-use Rattle.store_form.specs.Sizes.{form-number, most-nodes, names-length, program-length, variables-length, config-length, store-length}
-use Rattle.store_form.specs.State.{State, table, number-in}
+use Rattle.store_form.specs.Sizes.{form-number, most-nodes, most-rules, program-length, variables-length, config-length, store-length}
+use Rattle.store_form.specs.State.{State, table, node-count, number-in}
 use Rattle.store_form.specs.Form.{numbers-bytes, region, rules-words, config-words, header, store-bytes}
 use Rattle.store_form.specs.Holding.{Fits}
 use Rattle.store_start.specs.Start.{Left, start-state, start-words}
 use Rattle.store_start.proofs.Tables.{cells-count}
-use Rattle.store_start.proofs.Starting.{few-names, finds, start-rules, start-goals, start-fits}
+use Rattle.store_start.proofs.Starting.{few-names, finds, start-rules, start-goals, start-fits, rules-together}
 use Rattle.store_loaded.proofs.Loaded.{loaded-left}
 use Rattle.store_parts.specs.declared.Among.the-variants.{Others}
 use Rattle.store_parts.specs.Counting.{parts-in}
@@ -139,8 +138,9 @@ module _ (text query N D c r Q g : List ℕ) (d a v b m : ℕ) (read : Loaded te
   unfolding first-bytes regions store-bytes
   bytes-are =
       ap₂ (λ (x y : List ℕ). x ++ y) header-is
-      (ap₂ (λ (x y : List ℕ). region names-length x y) names-bytes
-      (ap₂ (λ (x y : List ℕ). region program-length x y) rules-bytes
+      (ap₂ (λ (x y : List ℕ). x ++ y) names-bytes
+      (ap (λ (k : ℕ). region (program-length k) (take (3 * a) r) (region variables-length (numbers-bytes (take v Q)) (region (config-length most-parts) (bytes-of (first-words v W)) []))) (sym count)
+      ∙ ap₂ (λ (x y : List ℕ). region (program-length (node-count started)) x y) rules-bytes
       (ap (λ (x : List Word). region variables-length (numbers-bytes (take v Q)) (region (config-length most-parts) (bytes-of x) [])) (sym words-is))))
 
   pub store-put : (L X : List ℕ) → LaidOut L c r Q W m a v X → X ≡ put-state most-parts L started
@@ -175,16 +175,15 @@ module _ (text query N D c r Q g : List ℕ) (d a v b m : ℕ) (read : Loaded te
 
   -- What is left to do may be done.
   pub can-settle : length (words g) ≤ 65536 → CanSettle c r Q (words g) m a v b
-  unfolding most-nodes rules-words
+  unfolding most-rules
   can-settle short =
-      let F = program-words-few text P (read .reads-program) num in
+      let F = rules-together text query N (words r) Q (words g) a v b m P q left in
       let h = read .room .1 in
       let e : length (rules-words started) ≡ a = ap length rules-is ∙ length-take-le a (words r) h in
       record {
         names = long-names;
-        few-names = omega (arith, names, read .room .4, nodes);
         rules = long-rules;
-        few-rules = omega (arith, F .0, F .1, e, rules-number);
+        together = omega (arith, F, count, e);
         variables = read .room .2;
         few-variables = few-variables;
         goal = read .room .3;
@@ -192,9 +191,3 @@ module _ (text query N D c r Q g : List ℕ) (d a v b m : ℕ) (read : Loaded te
         good = goal-good;
         fits = fits-words;
       }
-    where
-      nodes : most-nodes ≤ 20489
-      nodes = omega arith
-
-      rules-number : length (rules-words started) ≡ length (program-words num P)
-      rules-number = refl

@@ -20,9 +20,8 @@ first-parts v W = parts-in Others W + v + 2
 
 pub record CanSettle (N R Q : List ℕ) (G : List Word) (m a v b : ℕ) : Type 0 where
   pub names : 3 * m ≤ length N
-  pub few-names : m ≤ 20489
   pub rules : 3 * a ≤ length R
-  pub few-rules : a ≤ 40960
+  pub together : m + a ≤ 53257
   pub variables : v ≤ length Q
   pub few-variables : v ≤ 16
   pub goal : b ≤ length G

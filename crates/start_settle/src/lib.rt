@@ -20,7 +20,7 @@ pub fn settle(
     requires { ⌜ CanSettle (now cells) (now rules) (shorts (now order)) (words (now goal)) m a v b ⌝ }
     ensures { λ r. ⌜ Settled (now (store .entry)) (now (cells .entry)) (now (rules .entry)) (shorts (now (order .entry))) (take b (words (now (goal .entry)))) m a v w (now (store .exit)) r ⌝ }
 {
-    if store.len() < 270429 {
+    if store.len() < 245853 {
         return 8;
     }
     if w < 524288 {

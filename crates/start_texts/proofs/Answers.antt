@@ -1,23 +1,19 @@
 -- The answers of reading two texts, as answers of the start. Assumes nothing.
 use mathlib.Core.Path.{_≡_, refl, sym, ap, _∙_, subst}
 use mathlib.Core.List.{List}
-use mathlib.Core.Bool.{Bool, true, false, not}
 use Prim.Native.Nat.{ℕ, zero, suc, _+_, _≤_, _<_}
 use native.Mathlib.Omega.{arith}
-use lib.Dec.{T, ltb, nltb→le}
 use mathlib.Core.Logic.{_⊎_, inl, inr}
 use lib.ListN.{length}
-use Rattle.akl.specs.Base.{Result, refused, ok, if, size}
-use Rattle.akl.specs.Limits.{query-bytes, most-parts}
+use Rattle.akl.specs.Base.{refused, ok}
+use Rattle.akl.specs.Limits.{most-parts}
 use Rattle.akl.specs.Syntax.{Program}
 use Rattle.akl.specs.Reader.{Query, read-program, read-query}
 use Rattle.mem_words.specs.declared.Word.{Word}
 use Rattle.read_inputs.specs.declared.Inputs.{Inputs}
 use Rattle.read_inputs.specs.declared.Inputs.the-variants.{Read, Refused, Short}
 use Rattle.read_inputs.specs.Inputs.{InputsTo, Loaded, Ample}
-use Rattle.texts.specs.Readable.{query-of}
-use Rattle.texts.proofs.Reading.{read-query-is}
-use Rattle.store_words.proofs.Sizes.{size-length}
+use Rattle.store_texts.proofs.Queries.{query-short}
 use Rattle.refusals.specs.declared.Refusal.{Refusal}
 use Rattle.refusals.specs.declared.Refusal.the-variants.{TooLong, NotOfGrammar, TooMany, Twice, NotDefined, NotBound, TwoOperators, TooShort, NotWellFormed, NoRule, NoPlace, OtherKind, ConditionFalse, NoFreshNumber, TooManyParts, NoAnswer, AnswerTooLong, NotALine}
 use Rattle.refusals.specs.Refusals.{numberOf}
@@ -25,22 +21,7 @@ use Rattle.store_form.specs.Sizes.{most-nodes}
 use Rattle.start_outcome.specs.Outcome.{StoreAfter, StartTo}
 use Rattle.start_outcome.proofs.Settling.{program-refused, query-refused}
 
-refused-not : {A : Type 0} (n : ℕ) (a : A) → _≡_ {A = Result A} (refused n) (ok a) → ⊥
-refused-not n a q = let z : _≡_ {A = ℕ} 0 1 = cc in omega arith
-
-not-so : (b : Bool) → b ≡ false → T (not b)
-not-so true e = absurd (let z : _≡_ {A = ℕ} 0 1 = cc in omega arith)
-not-so false e = tt
-
--- a query that is read is within its limit
-pub query-short : (P : Program) (text : List ℕ) (q : Query) → read-query P text ≡ ok q → length text ≤ 4096
-query-short P text q e = go (ltb query-bytes (size text)) refl (sym (read-query-is P text) ∙ e)
-  where
-    go : (b : Bool) → ltb query-bytes (size text) ≡ b → if b (refused 1) (query-of P text) ≡ ok q → length text ≤ 4096
-    go true p r = absurd (refused-not 1 q r)
-    go false p r = omega (arith, size-length text, nltb→le query-bytes (size text) (not-so (ltb query-bytes (size text)) p))
-
--- so the table of names is no longer than a store has room for
+-- The table of names is no longer than a store has room for.
 pub few-cells : (text query N M : List ℕ) (P : Program) (q : Query) → length N ≡ 9 + length text + length query → length text ≤ 16384 → length M ≡ length N → read-query P query ≡ ok q → length M ≤ most-nodes
 unfolding most-nodes
 few-cells text query N M P q e h k r = omega (arith, query-short P query q r, e, h, k)

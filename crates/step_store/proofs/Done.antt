@@ -23,7 +23,7 @@ use Rattle.runs.specs.Outcomes.{refusal}
 use Rattle.mem_words.specs.declared.Word.{Word}
 use Rattle.mem_words.specs.Words.{words}
 use Rattle.mem_parts.specs.Parts.{cut}
-use Rattle.check_held.specs.Checks.{rules-in, words-in, next-in}
+use Rattle.check_held.specs.Checks.{nodes-in, rules-in, words-in, next-in}
 use Rattle.store_form.specs.State.{State, program-of, names-of, config-of}
 use Rattle.store_form.specs.Form.{config-words}
 use Rattle.store_form.proofs.Keeping.{with-config}
@@ -52,14 +52,14 @@ pub record Viewed (b : List ℕ) (W D : List Word) (next : ℕ) : Type 0 where
   pub meant : (s : State) → held most-parts b ≡ some s → Meant W D s
   pub number : (s : State) → held most-parts b ≡ some s → next ≡ s .config .next
 
-pub viewed : (b : List ℕ) (n d next : ℕ) → n ≡ words-in b → d ≡ rules-in b → next ≡ next-in b → Viewed b (words (cut 184413 (184413 + 3 * n) b)) (words (cut 61485 (61485 + 3 * d) b)) next
+pub viewed : (b : List ℕ) (n d next : ℕ) → n ≡ words-in b → d ≡ rules-in b → next ≡ next-in b → Viewed b (words (cut 159837 (159837 + 3 * n) b)) (words (cut (18 + 3 * nodes-in b) (18 + 3 * nodes-in b + 3 * d) b)) next
 viewed b n d next en ed ex = record {
   meant = λ s h.
       let p = held-begins most-parts (omega arith) b s h in
       record {
         stands = held-stands most-parts (omega arith) b s h;
-        config = ap (λ (x : ℕ). words (cut 184413 (184413 + 3 * x) b)) en ∙ config-there most-parts (omega arith) s (p .1) _ b (p .0);
-        rules = ap (λ (x : ℕ). words (cut 61485 (61485 + 3 * x) b)) ed ∙ program-there most-parts (omega arith) s (p .1) _ b (p .0);
+        config = ap (λ (x : ℕ). words (cut 159837 (159837 + 3 * x) b)) en ∙ config-there most-parts (omega arith) s (p .1) _ b (p .0);
+        rules = ap (λ (x : ℕ). words (cut (18 + 3 * nodes-in b) (18 + 3 * nodes-in b + 3 * x) b)) ed ∙ program-there most-parts (omega arith) s (p .1) _ b (p .0);
       };
   number = λ s h. let p = held-begins most-parts (omega arith) b s h in ex ∙ next-told most-parts (omega arith) s (p .1) _ b (p .0);
 }

@@ -9,7 +9,7 @@ use lib.ListN.{length}
 use Rattle.akl.specs.Base.{nth, size}
 use Rattle.akl.specs.Limits.{most-parts}
 use Rattle.akl.specs.Table.{Row, table, rule-row}
-use Rattle.check_held.specs.Checks.{rules-in, words-in, next-in}
+use Rattle.check_held.specs.Checks.{nodes-in, rules-in, words-in, next-in}
 use Rattle.check_held.proofs.Back.{held-checks}
 use Rattle.check_zeros.specs.Zeros.{Zeros}
 use Rattle.store_form.proofs.Lengths.{starts, lengths}
@@ -32,16 +32,16 @@ use Rattle.step_decide.proofs.Places.{stands-within}
 use Rattle.step_store.specs.Regions.{config-part, program-part, Counts, CanRewrite, WasBuilt}
 use Rattle.step_store.proofs.Done.{Viewed, viewed, counted, fit-next}
 
-pub counts : (b : List ℕ) (n m : ℕ) → 270429 ≤ length b → HoldsState b → n ≡ words-in b → m ≡ rules-in b → Counts b n m
+pub counts : (b : List ℕ) (n m : ℕ) → 245853 ≤ length b → HoldsState b → n ≡ words-in b → m ≡ rules-in b → Counts b n m
 counts b n m l h e f = record { long = l; held = h; config = e; rules = f }
 
 module _ {b : List ℕ} {n m : ℕ} (c : Counts b n m) where
-  pub config-fits : 184413 + 3 * n ≤ 270429
+  pub config-fits : 159837 + 3 * n ≤ 245853
   config-fits =
       let p = held-begins most-parts (omega arith) b (c .held .state) (c .held .holds) in
       omega (arith, c .config, lengths .0, config-within most-parts (omega arith) (c .held .state) (p .1) _ b (p .0))
 
-  pub program-fits : 61485 + 3 * m ≤ 184365
+  pub program-fits : 18 + 3 * nodes-in b + 3 * m ≤ 159789
   program-fits =
       let p = held-begins most-parts (omega arith) b (c .held .state) (c .held .holds) in
       omega (arith, c .rules, program-within most-parts (omega arith) (c .held .state) (p .1) _ b (p .0))
@@ -54,10 +54,10 @@ module _ {b : List ℕ} {n m : ℕ} (c : Counts b n m) where
   can-decide = record { state = c .held .state; meant = parts-viewed (next-in b) refl .meant (c .held .state) (c .held .holds) }
 
   -- behind the configuration all is zero
-  pub config-zeros : Zeros b (184413 + 3 * n) 270429
+  pub config-zeros : Zeros b (159837 + 3 * n) 245853
   config-zeros i p q =
       let h = held-checks most-parts (omega arith) b (c .held .state) (c .held .holds) .0 in
-      h .unused .words i (omega (arith, c .config, starts .3)) (omega (arith, lengths .0))
+      h .unused .words i (omega (arith, c .config, starts .2)) (omega (arith, lengths .0))
 
   -- the next fresh number fits two bytes
   pub next-low : (next : ℕ) → next ≡ next-in b → next < 65536

@@ -1,4 +1,4 @@
--- The words in the regions of a store's bytes b, n those of its configuration and m those of its program, and the region of the working
+-- The words in the regions of a store's bytes b, n those of its configuration and m those of its program, which stand behind the names, and the region of the working
 -- slice in which the next configuration is built. Assumes nothing.
 use mathlib.Core.Path.{_≡_}
 use mathlib.Core.List.{List}
@@ -7,20 +7,20 @@ use lib.ListN.{length}
 use Rattle.mem_words.specs.declared.Word.{Word}
 use Rattle.mem_words.specs.Words.{words}
 use Rattle.mem_parts.specs.Parts.{cut}
-use Rattle.check_held.specs.Checks.{rules-in, words-in}
+use Rattle.check_held.specs.Checks.{nodes-in, rules-in, words-in}
 use Rattle.rule_build.specs.Built.{Built}
 use Rattle.rule_rewrite.specs.Rewriting.{effect-words, fresh-words}
 use Rattle.step_meant.specs.Deciding.{HoldsState}
 
 unfoldable pub config-part : List ℕ → ℕ → List Word
-config-part b n = words (cut 184413 (184413 + 3 * n) b)
+config-part b n = words (cut 159837 (159837 + 3 * n) b)
 
 unfoldable pub program-part : List ℕ → ℕ → List Word
-program-part b m = words (cut 61485 (61485 + 3 * m) b)
+program-part b m = words (cut (18 + 3 * nodes-in b) (18 + 3 * nodes-in b + 3 * m) b)
 
 -- the store holds a state, and these are its counts
 pub record Counts (b : List ℕ) (n m : ℕ) : Type 0 where
-  pub long : 270429 ≤ length b
+  pub long : 245853 ≤ length b
   pub held : HoldsState b
   pub config : n ≡ words-in b
   pub rules : m ≡ rules-in b

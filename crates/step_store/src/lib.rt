@@ -19,18 +19,19 @@ fn decision(b: &[u8], w: &mut [u8], n: usize, m: usize, r: usize, p: Place, a: u
     requires { ⌜ Idle (now w) × Counts (now b) n m ⌝ }
     ensures { λ x. ⌜ Decided (config-part (now (b .entry)) n) (program-part (now (b .entry)) m) (step-of r (p .0) a) x × Idle (now (w .exit)) ⌝ }
 {
-    let e = 184413 + 3 * n;
-    let f = 61485 + 3 * m;
-    step_decide::decide(&b[184413..e], &b[61485..f], w, r, p, a)
+    let e = 159837 + 3 * n;
+    let d = store_views::program_start(b);
+    let f = d + 3 * m;
+    step_decide::decide(&b[159837..e], &b[d..f], w, r, p, a)
 }
 
 // How many fresh variables the rule takes at `i`, or more than 65,536.
 fn fresh(b: &[u8], n: usize, r: usize, i: usize) -> usize
-    requires { ⌜ (184413 + 3 * n ≤ 270429) × (270429 ≤ length (now b)) × (i ≤ length (config-part (now b) n)) ⌝ }
+    requires { ⌜ (159837 + 3 * n ≤ 245853) × (245853 ≤ length (now b)) × (i ≤ length (config-part (now b) n)) ⌝ }
     ensures { λ f. ⌜ Capped (fresh-words (config-part (now (b .entry)) n) r i) f ⌝ }
 {
-    let e = 184413 + 3 * n;
-    rule_rewrite::fresh_for(&b[184413..e], r, i)
+    let e = 159837 + 3 * n;
+    rule_rewrite::fresh_for(&b[159837..e], r, i)
 }
 
 // The rule's effect, written to the part of `w` from `lo` on up to `hi`. The bounds are parameters and no constants: no large numeral
@@ -56,9 +57,10 @@ fn build(b: &[u8], w: &mut [u8], n: usize, m: usize, next: usize, r: usize, i: u
     requires { ⌜ Idle (now w) × Counts (now b) n m × CanRewrite (config-part (now b) n) r i next ⌝ }
     ensures { λ x. ⌜ WasBuilt (now (b .entry)) n m next r i x (now (w .exit)) × Idle (now (w .exit)) ⌝ }
 {
-    let e = 184413 + 3 * n;
-    let f = 61485 + 3 * m;
-    rewrite_in(&b[184413..e], &b[61485..f], r, i, next, w, 401408, 487424)
+    let e = 159837 + 3 * n;
+    let d = store_views::program_start(b);
+    let f = d + 3 * m;
+    rewrite_in(&b[159837..e], &b[d..f], r, i, next, w, 401408, 487424)
 }
 
 // Settles the `x` words that were built in the part of `w` from `lo` on up to `hi`, over the `n` words of the store.
@@ -80,7 +82,7 @@ fn settle_from(
 
 // Rule `r` at the place `p` with the argument `a`. Answers the refusal, 10 to 15; or 0, and `b` is the store after the step.
 pub fn step(b: &mut [u8], w: &mut [u8], r: usize, p: Place, a: usize) -> usize
-    requires { ⌜ (270429 ≤ length (now b)) × Idle (now w) × HoldsState (now b) ⌝ }
+    requires { ⌜ (245853 ≤ length (now b)) × Idle (now w) × HoldsState (now b) ⌝ }
     ensures { λ x. ⌜ StepDone (now (b .entry)) (step-of r (p .0) a) x (now (b .exit)) × Idle (now (w .exit)) ⌝ }
 {
     let n = store_views::config_count(b);

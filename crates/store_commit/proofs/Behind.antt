@@ -44,13 +44,13 @@ behind A L X h i x l g =
     ap₂ (λ (y : List ℕ) (m : ℕ). getD y m 0) x k ∙ getD-append-add A (drop h L) (i - h) 0 ∙ getD-drop h L (i - h) 0 ∙ ap (λ (m : ℕ). getD L m 0) j
 
 -- The header's counts, then the configuration up to the end of the longer of the old and the new.
-pub was-over : (L S H X Y : List ℕ) (n next old m e : ℕ) → CanCommit L S n old → n ≤ m → old ≤ m → m ≤ 28672 → e ≡ 184413 + 3 * m → ByteList S → H ≡ numbers-bytes (n ∷ next ∷ [])
-    → Regioned L 12 18 (take 6 H) X → Regioned X 184413 e (take (3 * n) S) Y → Committed L S n next Y
+pub was-over : (L S H X Y : List ℕ) (n next old m e : ℕ) → CanCommit L S n old → n ≤ m → old ≤ m → m ≤ 28672 → e ≡ 159837 + 3 * m → ByteList S → H ≡ numbers-bytes (n ∷ next ∷ [])
+    → Regioned L 12 18 (take 6 H) X → Regioned X 159837 e (take (3 * n) S) Y → Committed L S n next Y
 was-over L S H X Y n next old m e can nm om few q b c w v =
     let K : List ℕ = numbers-bytes (n ∷ next ∷ []) in
     let A : List ℕ = take 12 L ++ K in
     let la : length A ≡ 18 = omega (arith, length-append (take 12 L) K, length-take-le 12 L (omega (arith, can .store)), count-six n next) in
     let x : X ≡ A ++ drop 18 L = counts-put L n next H X c w ∙ sym (append-assoc (take 12 L) K (drop 18 L)) in
-    let z : Zeros X e 270429 = λ i p g. behind A L X 18 i x la (omega arith) ∙ can .zeros i (omega arith) g in
+    let z : Zeros X e 245853 = λ i p g. behind A L X 18 i x la (omega arith) ∙ can .zeros i (omega arith) g in
     was-committed L S H X Y n next (can .store) b c w
-    (wider X 184413 e 270429 (take (3 * n) S) Y (omega arith) (omega arith) (omega (arith, can .store, w .long)) (omega (arith, length-take-le (3 * n) S (can .source))) z v)
+    (wider X 159837 e 245853 (take (3 * n) S) Y (omega arith) (omega arith) (omega (arith, can .store, w .long)) (omega (arith, length-take-le (3 * n) S (can .source))) z v)

@@ -42,19 +42,19 @@ pub count-six : (n next : ℕ) → length (numbers-bytes (n ∷ next ∷ [])) �
 unfolding numbers-bytes number-bytes
 count-six n next = refl
 
-config-is : 270429 - 184413 ≡ config-length most-parts
+config-is : 245853 - 159837 ≡ config-length most-parts
 unfolding config-length
 config-is = refl
 
-pub was-committed : (L S H X Y : List ℕ) (n next : ℕ) → 270429 ≤ length L → ByteList S → H ≡ numbers-bytes (n ∷ next ∷ []) → Regioned L 12 18 (take 6 H) X → Regioned X 184413 270429 (take (3 * n) S) Y → Committed L S n next Y
+pub was-committed : (L S H X Y : List ℕ) (n next : ℕ) → 245853 ≤ length L → ByteList S → H ≡ numbers-bytes (n ∷ next ∷ []) → Regioned L 12 18 (take 6 H) X → Regioned X 159837 245853 (take (3 * n) S) Y → Committed L S n next Y
 unfolding committed
 was-committed L S H X Y n next l b e w v =
     let K : List ℕ = numbers-bytes (n ∷ next ∷ []) in
     let C : List ℕ = take (3 * n) S in
     record {
       list =
-          two-regions L K C X Y 12 18 184413 270429 (omega arith) (count-six n next) (omega arith) (omega arith) l (counts-put L n next H X e w) (v .list)
-          ∙ ap₂ (λ (h c : ℕ). take 12 L ++ (K ++ (cut h c L ++ region (270429 - 184413) C (drop 270429 L)))) (sym (starts .0)) (sym (starts .3))
+          two-regions L K C X Y 12 18 159837 245853 (omega arith) (count-six n next) (omega arith) (omega arith) l (counts-put L n next H X e w) (v .list)
+          ∙ ap₂ (λ (h c : ℕ). take 12 L ++ (K ++ (cut h c L ++ region (245853 - 159837) C (drop 245853 L)))) (sym (starts .0)) (sym (starts .2))
           ∙ ap₂ (λ (r s : ℕ). take 12 L ++ (K ++ (cut header-length config-start L ++ region r C (drop s L)))) config-is (sym (lengths .0));
       long = v .long ∙ w .long;
       bytes = b;

@@ -9,8 +9,8 @@ use Rattle.akl.specs.Limits.{most-parts}
 use Rattle.akl.specs.Configuration.{Config}
 use Rattle.mem_words.specs.Form.{bytes-of}
 use Rattle.mem_parts.specs.Parts.{cut}
-use Rattle.store_form.specs.Sizes.{header-length, names-length, program-length, variables-length, config-length, program-start, variables-start, config-start, store-length}
-use Rattle.store_form.specs.State.{State, table}
+use Rattle.store_form.specs.Sizes.{header-length, program-length, variables-length, config-length, program-start, config-start, store-length}
+use Rattle.store_form.specs.State.{State, table, node-count}
 use Rattle.store_form.specs.Form.{number-bytes, numbers-bytes, region, rules-words, config-words, header, store-bytes}
 use Rattle.store_form.specs.Holding.{Fits}
 use Rattle.store_form.proofs.Bytes.{length-numbers-bytes, length-region, next-region}
@@ -43,7 +43,7 @@ in-list L H M C S K G rest a h c k e l lh ah lm lc ce g =
 
 -- the regions between a state's header and its configuration
 middle : State → List ℕ
-middle s = region names-length (numbers-bytes (table s)) [] ++ (region program-length (bytes-of (rules-words s)) [] ++ region variables-length (numbers-bytes (s .variables)) [])
+middle s = numbers-bytes (table s) ++ (region (program-length (node-count s)) (bytes-of (rules-words s)) [] ++ region variables-length (numbers-bytes (s .variables)) [])
 
 in-three : (limit : ℕ) (s : State) → store-bytes limit s ≡ numbers-bytes (header s) ++ (middle s ++ region (config-length limit) (bytes-of (config-words s)) [])
 unfolding store-bytes middle
@@ -52,13 +52,13 @@ in-three limit s =
     let N : List ℕ = numbers-bytes (table s) in
     let P : List ℕ = bytes-of (rules-words s) in
     let W : List ℕ = numbers-bytes (s .variables) in
+    let k : ℕ = program-length (node-count s) in
     ap (λ (x : List ℕ). numbers-bytes (header s) ++ x) (sym (
-    append-assoc (region names-length N []) (region program-length P [] ++ region variables-length W []) r4
-    ∙ ap (λ (x : List ℕ). region names-length N [] ++ x)
-    (append-assoc (region program-length P []) (region variables-length W []) r4
-    ∙ ap (λ (x : List ℕ). region program-length P [] ++ x) (region-on variables-length W r4)
-    ∙ region-on program-length P (region variables-length W r4))
-    ∙ region-on names-length N (region program-length P (region variables-length W r4))
+    append-assoc N (region k P [] ++ region variables-length W []) r4
+    ∙ ap (λ (x : List ℕ). N ++ x)
+    (append-assoc (region k P []) (region variables-length W []) r4
+    ∙ ap (λ (x : List ℕ). region k P [] ++ x) (region-on variables-length W r4)
+    ∙ region-on k P (region variables-length W r4))
     ))
 
 module _ (limit : ℕ) (low : limit ≤ 65536) (s : State) (F : Fits limit s) where
@@ -67,17 +67,19 @@ module _ (limit : ℕ) (low : limit ≤ 65536) (s : State) (F : Fits limit s) wh
   header-long = length-numbers-bytes (header s)
 
   middle-long : header-length + length (middle s) ≡ config-start
-  unfolding middle config-start variables-start program-start
+  unfolding middle config-start program-start
   middle-long =
       let N : List ℕ = numbers-bytes (table s) in
       let P : List ℕ = bytes-of (rules-words s) in
       let W : List ℕ = numbers-bytes (s .variables) in
+      let k : ℕ = program-length (node-count s) in
       omega (
         arith,
-        length-append (region names-length N []) (region program-length P [] ++ region variables-length W []),
-        length-append (region program-length P []) (region variables-length W []),
-        length-region names-length N [] (reading.names-long limit low s F),
-        length-region program-length P [] (reading.rules-long limit low s F),
+        length-append N (region k P [] ++ region variables-length W []),
+        length-append (region k P []) (region variables-length W []),
+        reading.names-long limit low s F,
+        length-region k P [] (reading.rules-long limit low s F),
+        reading.shared limit low s F,
         length-region variables-length W [] (reading.variables-long limit low s F),
       )
 

@@ -23,11 +23,11 @@ committed L S n next =
 
 -- the configuration that stands there has `old` words, and all behind it is zero
 pub record CanCommit (L S : List ℕ) (n old : ℕ) : Type 0 where
-  pub store : 270429 ≤ length L
+  pub store : 245853 ≤ length L
   pub source : 3 * n ≤ length S
   pub few : n ≤ 28672
   pub few-old : old ≤ 28672
-  pub zeros : Zeros L (184413 + 3 * old) 270429
+  pub zeros : Zeros L (159837 + 3 * old) 245853
 
 pub record Committed (L S : List ℕ) (n next : ℕ) (X : List ℕ) : Type 0 where
   pub list : X ≡ committed L S n next

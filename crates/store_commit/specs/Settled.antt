@@ -18,11 +18,11 @@ most-words = 28672
 
 -- L's configuration has `old` words; where the rule adds no parts it is known that they are not too many
 pub record CanSettle (L S : List ℕ) (n old : ℕ) (adds : Bool) : Type 0 where
-  pub store : 270429 ≤ length L
+  pub store : 245853 ≤ length L
   -- there is room for them
   pub room : 86016 ≤ length S
   pub few-old : old ≤ most-words
-  pub zeros : Zeros L (184413 + 3 * old) 270429
+  pub zeros : Zeros L (159837 + 3 * old) 245853
   pub fit : adds ≡ false → n ≤ most-words → parts-in Others (take n (words S)) ≤ most-parts
 
 pub data Settled (L S : List ℕ) (n next : ℕ) (X : List ℕ) : ℕ → Type 0 where

@@ -47,8 +47,8 @@ pub fn commit(b: &mut [u8], src: &[u8], n: usize, next: usize, old: usize)
     let counts = count_bytes(n, next);
     store_regions::put_region(b, 12, 18, &counts, 6);
     let most = larger(n, old);
-    let e = 184413 + 3 * most;
-    store_regions::put_region(b, 184413, e, src, 3 * n);
+    let e = 159837 + 3 * most;
+    store_regions::put_region(b, 159837, e, src, 3 * n);
 }
 
 // Whether the first `n` words of `out` have at most 2,048 parts.

@@ -168,6 +168,7 @@ fits-with limit low s F P xs c f w =
       lower = F .lower;
       apart = F .apart;
       rules = F .rules;
+      together = F .together;
       rules-small = F .rules-small;
       variables = F .variables;
       known = F .known;

@@ -1,14 +1,14 @@
 -- Bytes hold a state exactly when that state is read from them; and a state's bytes are of the documented length.
 use mathlib.Core.Path.{_≡_, refl, ap, sym, _∙_, subst}
 use mathlib.Core.Logic.{_↔_}
-use mathlib.Core.List.{List, [], _∷_}
+use mathlib.Core.List.{List, [], _∷_, _++_}
 use mathlib.Core.Bool.{Bool, true, false, _&&_}
 use mathlib.Core.Option.{Option, some, none, Option·some-injective}
-use Prim.Native.Nat.{ℕ, suc, _*_, _<_, _≤_}
+use Prim.Native.Nat.{ℕ, suc, _+_, _*_, _<_, _≤_}
 use native.Mathlib.Omega.{arith}
 use lib.Dec.{T, leb, ltb, leb→le, le→leb, ltb→lt, lt→ltb}
 use lib.ListN.{length, getD, take, drop, length-append}
-use lib.Seq.{take-at, drop-at}
+use lib.Seq.{take-at, drop-at, drop-drop}
 use Rattle.constraint.specs.Solve.{distinct}
 use Rattle.constraint.proofs.Lists.{and-T}
 use Rattle.akl.specs.Base.{Name, all, same, when, _>>=_}
@@ -24,8 +24,8 @@ use Rattle.mem_words.specs.Form.{bytes-of, length-bytes-of, bytes-words}
 use Rattle.read_nodes.specs.Spell.{named}
 use Rattle.store_words.specs.Reading.{read-node}
 use Rattle.store_words.proofs.Back.{node-back}
-use Rattle.store_form.specs.Sizes.{most-nodes, most-program-words, part-words, two-bytes, header-length, names-length, program-length, variables-length, config-length, program-start, variables-start, config-start, store-length}
-use Rattle.store_form.specs.State.{State, table, number-in}
+use Rattle.store_form.specs.Sizes.{most-nodes, most-program-words, most-rules, part-words, two-bytes, header-length, program-length, variables-length, config-length, program-start, variables-start, config-start, store-length}
+use Rattle.store_form.specs.State.{State, table, node-count, number-in}
 use Rattle.store_form.specs.Form.{numbers-bytes, region, rules-words, config-words, header, store-bytes}
 use Rattle.store_form.specs.Holding.{lowered, small-word, below, Fits, Holds, fits, built, piece, parsed, read-store}
 use Rattle.store_form.proofs.Names.{lowered-at, number-back}
@@ -35,12 +35,13 @@ use Rattle.store_form.proofs.Bytes.{Triples, length-numbers-bytes, numb
 -- ---------------------------------------------------------------------------------------------
 -- The test says what the record says.
 
-ten : (a b c d e f g h i j : Bool) → T (a && b && c && d && e && f && g && h && i && j) ↔ (T a × T b × T c × T d × T e × T f × T g × T h × T i × T j)
-ten a b c d e f g h i j = (there, back)
+eleven : (a b c d e f g h i j k : Bool) → T (a && b && c && d && e && f && g && h && i && j && k) ↔ (T a × T b × T c × T d × T e × T f × T g × T h × T i × T j × T k)
+eleven a b c d e f g h i j k = (there, back)
   where
-    there : T (a && b && c && d && e && f && g && h && i && j) → T a × T b × T c × T d × T e × T f × T g × T h × T i × T j
+    there : T (a && b && c && d && e && f && g && h && i && j && k) → T a × T b × T c × T d × T e × T f × T g × T h × T i × T j × T k
     there t =
-        let tj = and-T (a && b && c && d && e && f && g && h && i) j .0 t in
+        let tk = and-T (a && b && c && d && e && f && g && h && i && j) k .0 t in
+        let tj = and-T (a && b && c && d && e && f && g && h && i) j .0 (tk .0) in
         let ti = and-T (a && b && c && d && e && f && g && h) i .0 (tj .0) in
         let th = and-T (a && b && c && d && e && f && g) h .0 (ti .0) in
         let tg = and-T (a && b && c && d && e && f) g .0 (th .0) in
@@ -49,26 +50,32 @@ ten a b c d e f g h i j = (there, back)
         let td = and-T (a && b && c) d .0 (te .0) in
         let tc = and-T (a && b) c .0 (td .0) in
         let tb = and-T a b .0 (tc .0) in
-        (tb .0, tb .1, tc .1, td .1, te .1, tf .1, tg .1, th .1, ti .1, tj .1)
+        (tb .0, tb .1, tc .1, td .1, te .1, tf .1, tg .1, th .1, ti .1, tj .1, tk .1)
 
-    back : T a × T b × T c × T d × T e × T f × T g × T h × T i × T j → T (a && b && c && d && e && f && g && h && i && j)
+    back : T a × T b × T c × T d × T e × T f × T g × T h × T i × T j × T k → T (a && b && c && d && e && f && g && h && i && j && k)
     back t =
-        let tc = and-T (a && b) c .1 (and-T a b .1 (t .0, t .1), t .2) in
-        let te = and-T (a && b && c && d) e .1 (and-T (a && b && c) d .1 (tc, t .3), t .4) in
-        let tg = and-T (a && b && c && d && e && f) g .1 (and-T (a && b && c && d && e) f .1 (te, t .5), t .6) in
-        let ti = and-T (a && b && c && d && e && f && g && h) i .1 (and-T (a && b && c && d && e && f && g) h .1 (tg, t .7), t .8) in
-        and-T (a && b && c && d && e && f && g && h && i) j .1 (ti, t .9)
+        let tb = and-T a b .1 (t .0, t .1) in
+        let tc = and-T (a && b) c .1 (tb, t .2) in
+        let td = and-T (a && b && c) d .1 (tc, t .3) in
+        let te = and-T (a && b && c && d) e .1 (td, t .4) in
+        let tf = and-T (a && b && c && d && e) f .1 (te, t .5) in
+        let tg = and-T (a && b && c && d && e && f) g .1 (tf, t .6) in
+        let th = and-T (a && b && c && d && e && f && g) h .1 (tg, t .7) in
+        let ti = and-T (a && b && c && d && e && f && g && h) i .1 (th, t .8) in
+        let tj = and-T (a && b && c && d && e && f && g && h && i) j .1 (ti, t .9) in
+        and-T (a && b && c && d && e && f && g && h && i && j) k .1 (tj, t .10)
 
 -- each test by itself
 abbrev Tests : ℕ → State → Type 0
 Tests limit s =
-    T (leb (suc (length (s .cells))) most-nodes)
+    T (leb (node-count s) most-nodes)
     × T (lowered 1 (s .cells))
     × T (distinct (s .cells))
     × T (leb (length (rules-words s)) most-program-words)
+    × T (leb (node-count s + length (rules-words s)) most-rules)
     × T (all small-word (rules-words s))
     × T (leb (length (s .variables)) most-query-variables)
-    × T (all (below (suc (length (s .cells)))) (s .variables))
+    × T (all (below (node-count s)) (s .variables))
     × T (leb (length (config-words s)) (part-words * limit))
     × T (all small-word (config-words s))
     × T (ltb (s .config .next) two-bytes)
@@ -78,29 +85,31 @@ unfolding fits
 fits-says limit s = (λ t. there (tests .0 t), λ F. tests .1 (back F))
   where
     tests : T (fits limit s) ↔ Tests limit s
-    tests = ten (leb (suc (length (s .cells))) most-nodes) (lowered 1 (s .cells)) (distinct (s .cells)) (leb (length (rules-words s)) most-program-words) (all small-word (rules-words s)) (leb (length (s .variables)) most-query-variables) (all (below (suc (length (s .cells)))) (s .variables)) (leb (length (config-words s)) (part-words * limit)) (all small-word (config-words s)) (ltb (s .config .next) two-bytes)
+    tests = eleven (leb (node-count s) most-nodes) (lowered 1 (s .cells)) (distinct (s .cells)) (leb (length (rules-words s)) most-program-words) (leb (node-count s + length (rules-words s)) most-rules) (all small-word (rules-words s)) (leb (length (s .variables)) most-query-variables) (all (below (node-count s)) (s .variables)) (leb (length (config-words s)) (part-words * limit)) (all small-word (config-words s)) (ltb (s .config .next) two-bytes)
 
     there : Tests limit s → Fits limit s
     there t =
         record {
-          nodes = leb→le (suc (length (s .cells))) most-nodes (t .0);
+          nodes = leb→le (node-count s) most-nodes (t .0);
           lower = t .1;
           apart = t .2;
           rules = leb→le (length (rules-words s)) most-program-words (t .3);
-          rules-small = t .4;
-          variables = leb→le (length (s .variables)) most-query-variables (t .5);
-          known = t .6;
-          words = leb→le (length (config-words s)) (part-words * limit) (t .7);
-          words-small = t .8;
-          next = ltb→lt (s .config .next) two-bytes (t .9);
+          together = leb→le (node-count s + length (rules-words s)) most-rules (t .4);
+          rules-small = t .5;
+          variables = leb→le (length (s .variables)) most-query-variables (t .6);
+          known = t .7;
+          words = leb→le (length (config-words s)) (part-words * limit) (t .8);
+          words-small = t .9;
+          next = ltb→lt (s .config .next) two-bytes (t .10);
         }
 
     back : Fits limit s → Tests limit s
     back F = (
-      le→leb (suc (length (s .cells))) most-nodes (F .nodes),
+      le→leb (node-count s) most-nodes (F .nodes),
       F .lower,
       F .apart,
       le→leb (length (rules-words s)) most-program-words (F .rules),
+      le→leb (node-count s + length (rules-words s)) most-rules (F .together),
       F .rules-small,
       le→leb (length (s .variables)) most-query-variables (F .variables),
       F .known,
@@ -152,22 +161,26 @@ module _ (limit : ℕ) (low : limit ≤ 65536) (s : State) (F : Fits limit s) wh
   r3 = region variables-length (numbers-bytes (s .variables)) r4
 
   abbrev pub r2 : List ℕ
-  r2 = region program-length (bytes-of (rules-words s)) r3
+  r2 = region (program-length (node-count s)) (bytes-of (rules-words s)) r3
 
   abbrev pub r1 : List ℕ
-  r1 = region names-length (numbers-bytes (table s)) r2
+  r1 = numbers-bytes (table s) ++ r2
 
   header-long : length (numbers-bytes (header s)) ≡ header-length
   unfolding header header-length
   header-long = length-numbers-bytes (header s)
 
-  pub names-long : length (numbers-bytes (table s)) ≤ names-length
-  unfolding names-length
-  names-long = omega (arith, length-numbers-bytes (table s), F .nodes)
+  pub names-long : length (numbers-bytes (table s)) ≡ 3 * node-count s
+  names-long = length-numbers-bytes (table s)
 
-  pub rules-long : length (bytes-of (rules-words s)) ≤ program-length
+  pub rules-long : length (bytes-of (rules-words s)) ≤ program-length (node-count s)
   unfolding program-length
-  rules-long = omega (arith, length-bytes-of (rules-words s), F .rules)
+  rules-long = omega (arith, length-bytes-of (rules-words s), F .together)
+
+  -- names and program fill their region
+  pub shared : program-start (node-count s) + program-length (node-count s) ≡ variables-start
+  unfolding program-start program-length variables-start
+  shared = omega (arith, F .together)
 
   pub variables-long : length (numbers-bytes (s .variables)) ≤ variables-length
   unfolding variables-length
@@ -179,14 +192,16 @@ module _ (limit : ℕ) (low : limit ≤ 65536) (s : State) (F : Fits limit s) wh
 
   -- The documented length.
   pub bytes-length : length (store-bytes limit s) ≡ store-length limit
-  unfolding store-bytes store-length config-start variables-start program-start
+  unfolding store-bytes store-length config-start program-start
   bytes-length =
       omega (
         arith,
         length-append (numbers-bytes (header s)) r1,
         header-long,
-        length-region names-length (numbers-bytes (table s)) r2 names-long,
-        length-region program-length (bytes-of (rules-words s)) r3 rules-long,
+        length-append (numbers-bytes (table s)) r2,
+        names-long,
+        length-region (program-length (node-count s)) (bytes-of (rules-words s)) r3 rules-long,
+        shared,
         length-region variables-length (numbers-bytes (s .variables)) r4 variables-long,
         length-region (config-length limit) (bytes-of (config-words s)) [] config-long,
       )
@@ -199,28 +214,28 @@ module _ (limit : ℕ) (low : limit ≤ 65536) (s : State) (F : Fits limit s) wh
   unfolding store-bytes
   at-names = drop-at (numbers-bytes (header s)) r1 header-length header-long
 
-  pub at-program : drop program-start b ≡ r2
+  pub at-program : drop (program-start (node-count s)) b ≡ r2
   unfolding program-start
-  at-program = next-region header-length names-length b (numbers-bytes (table s)) r2 at-names names-long
+  at-program = sym (drop-drop (3 * node-count s) header-length b) ∙ ap (drop (3 * node-count s)) at-names ∙ drop-at (numbers-bytes (table s)) r2 (3 * node-count s) names-long
 
   pub at-variables : drop variables-start b ≡ r3
-  unfolding variables-start
-  at-variables = next-region program-start program-length b (bytes-of (rules-words s)) r3 at-program rules-long
+  at-variables = ap (λ (j : ℕ). drop j b) (sym shared) ∙ next-region (program-start (node-count s)) (program-length (node-count s)) b (bytes-of (rules-words s)) r3 at-program rules-long
 
   pub at-config : drop config-start b ≡ r4
   unfolding config-start
   at-config = next-region variables-start variables-length b (numbers-bytes (s .variables)) r4 at-variables variables-long
 
-  pub names-read : triples (piece header-length (suc (length (s .cells))) b) ≡ table s
-  names-read = ap triples (piece-region header-length (suc (length (s .cells))) names-length b (numbers-bytes (table s)) r2 at-names (length-numbers-bytes (table s))) ∙ numbers-back (table s) table-triples
+  pub names-read : triples (piece header-length (node-count s) b) ≡ table s
+  unfolding piece
+  names-read = ap triples (ap (take (3 * node-count s)) at-names ∙ take-at (numbers-bytes (table s)) r2 (3 * node-count s) names-long) ∙ numbers-back (table s) table-triples
 
-  pub rules-read : words (piece program-start (length (rules-words s)) b) ≡ rules-words s
-  rules-read = ap words (piece-region program-start (length (rules-words s)) program-length b (bytes-of (rules-words s)) r3 at-program (length-bytes-of (rules-words s))) ∙ bytes-words (rules-words s) (small-all (rules-words s) (F .rules-small))
+  pub rules-read : words (piece (program-start (node-count s)) (length (rules-words s)) b) ≡ rules-words s
+  rules-read = ap words (piece-region (program-start (node-count s)) (length (rules-words s)) (program-length (node-count s)) b (bytes-of (rules-words s)) r3 at-program (length-bytes-of (rules-words s))) ∙ bytes-words (rules-words s) (small-all (rules-words s) (F .rules-small))
 
   pub variables-read : triples (piece variables-start (length (s .variables)) b) ≡ s .variables
   variables-read =
       ap triples (piece-region variables-start (length (s .variables)) variables-length b (numbers-bytes (s .variables)) r4 at-variables (length-numbers-bytes (s .variables)))
-      ∙ numbers-back (s .variables) (below-triples (suc (length (s .cells))) (s .variables) (F .known) (omega (arith, F .nodes, few-nodes)))
+      ∙ numbers-back (s .variables) (below-triples (node-count s) (s .variables) (F .known) (omega (arith, F .nodes, few-nodes)))
 
   pub config-read : words (piece config-start (length (config-words s)) b) ≡ config-words s
   config-read = ap words (piece-region config-start (length (config-words s)) (config-length limit) b (bytes-of (config-words s)) [] at-config (length-bytes-of (config-words s))) ∙ bytes-words (config-words s) (small-all (config-words s) (F .words-small))
@@ -252,7 +267,7 @@ module _ (limit : ℕ) (low : limit ≤ 65536) (s : State) (F : Fits limit s) wh
   unfolding parsed header
   parsed-back =
       ap (λ (h : List ℕ). parsed h b) header-read
-      ∙ ap (λ (N : List ℕ). built N (words (piece program-start (length (rules-words s)) b)) (triples (piece variables-start (length (s .variables)) b)) (words (piece config-start (length (config-words s)) b)) (s .config .next)) names-read
+      ∙ ap (λ (N : List ℕ). built N (words (piece (program-start (node-count s)) (length (rules-words s)) b)) (triples (piece variables-start (length (s .variables)) b)) (words (piece config-start (length (config-words s)) b)) (s .config .next)) names-read
       ∙ ap (λ (W : List Word). built (table s) W (triples (piece variables-start (length (s .variables)) b)) (words (piece config-start (length (config-words s)) b)) (s .config .next)) rules-read
       ∙ ap (λ (v : List ℕ). built (table s) (rules-words s) v (words (piece config-start (length (config-words s)) b)) (s .config .next)) variables-read
       ∙ ap (λ (C : List Word). built (table s) (rules-words s) (s .variables) C (s .config .next)) config-read

@@ -7,7 +7,8 @@
 --   variables       the numbers of the names of the query's variables
 --   configuration   its words (store_words: Boxes)
 --
--- Numbers and words have three bytes, numbers the low byte first. Each region has its length, with zeros behind what is used.
+-- Numbers and words have three bytes, numbers the low byte first. The program's words stand right behind the names, with zeros up to
+-- where the variables begin; variables and configuration have their lengths, with zeros behind what is used.
 -- Assumes nothing.
 use mathlib.Core.List.{List, [], _∷_, _++_}
 use Prim.Native.Nat.{ℕ, suc, _-_, _/_, _%_}
@@ -16,8 +17,8 @@ use Rattle.layout.specs.Layout.{program-words}
 use Rattle.mem_words.specs.declared.Word.{Word}
 use Rattle.mem_words.specs.Form.{bytes-of}
 use Rattle.store_words.specs.Boxes.{node-words}
-use Rattle.store_form.specs.Sizes.{form-number, names-length, program-length, variables-length, config-length}
-use Rattle.store_form.specs.State.{State, table, number-in}
+use Rattle.store_form.specs.Sizes.{form-number, program-length, variables-length, config-length}
+use Rattle.store_form.specs.State.{State, table, node-count, number-in}
 
 unfoldable pub number-bytes : ℕ → List ℕ → List ℕ
 number-bytes v r = v % 256 ∷ v / 256 % 256 ∷ v / 65536 % 256 ∷ r
@@ -38,13 +39,13 @@ unfoldable pub config-words : State → List Word
 config-words s = node-words (number-in (table s)) (s .config .root) []
 
 unfoldable pub header : State → List ℕ
-header s = form-number ∷ suc (length (s .cells)) ∷ length (rules-words s) ∷ length (s .variables) ∷ length (config-words s) ∷ s .config .next ∷ []
+header s = form-number ∷ node-count s ∷ length (rules-words s) ∷ length (s .variables) ∷ length (config-words s) ∷ s .config .next ∷ []
 
 -- the bytes of a state, for configurations of at most `limit` parts
 unfoldable pub store-bytes : ℕ → State → List ℕ
 store-bytes limit s =
     numbers-bytes (header s)
-    ++ region names-length (numbers-bytes (table s))
-    (region program-length (bytes-of (rules-words s))
+    ++ (numbers-bytes (table s)
+    ++ region (program-length (node-count s)) (bytes-of (rules-words s))
     (region variables-length (numbers-bytes (s .variables))
     (region (config-length limit) (bytes-of (config-words s)) [])))

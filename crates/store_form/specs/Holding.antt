@@ -3,7 +3,7 @@ use mathlib.Core.Path.{_≡_}
 use mathlib.Core.List.{List, [], _∷_}
 use mathlib.Core.Bool.{Bool, true, _&&_}
 use mathlib.Core.Option.{Option, some}
-use Prim.Native.Nat.{ℕ, suc, _*_, _/_, _<_, _≤_}
+use Prim.Native.Nat.{ℕ, suc, _+_, _*_, _/_, _<_, _≤_}
 use lib.Dec.{T, leb, ltb}
 use lib.ListN.{length, getD, take, drop}
 use Rattle.constraint.specs.Solve.{distinct}
@@ -16,8 +16,8 @@ use Rattle.mem_words.specs.declared.Word.{Word}
 use Rattle.mem_words.specs.Words.{words, valueOf}
 use Rattle.read_nodes.specs.Spell.{named}
 use Rattle.store_words.specs.Reading.{read-node}
-use Rattle.store_form.specs.Sizes.{most-nodes, most-program-words, part-words, two-bytes, header-length, program-start, variables-start, config-start}
-use Rattle.store_form.specs.State.{State}
+use Rattle.store_form.specs.Sizes.{most-nodes, most-program-words, most-rules, part-words, two-bytes, header-length, program-start, variables-start, config-start}
+use Rattle.store_form.specs.State.{State, node-count}
 use Rattle.store_form.specs.Form.{rules-words, config-words, store-bytes}
 
 -- each cell's parent is below its node, the first cell's node being i
@@ -35,13 +35,14 @@ below n x = ltb x n
 -- A state that has bytes: what is used fits the regions; every node's parent is below it and no two nodes have the same parent and
 -- byte, so that different numbers are those of different names; every name stands in the table.
 pub record Fits (limit : ℕ) (s : State) : Type 0 where
-  pub nodes : suc (length (s .cells)) ≤ most-nodes
+  pub nodes : node-count s ≤ most-nodes
   pub lower : T (lowered 1 (s .cells))
   pub apart : T (distinct (s .cells))
   pub rules : length (rules-words s) ≤ most-program-words
+  pub together : node-count s + length (rules-words s) ≤ most-rules
   pub rules-small : T (all small-word (rules-words s))
   pub variables : length (s .variables) ≤ most-query-variables
-  pub known : T (all (below (suc (length (s .cells)))) (s .variables))
+  pub known : T (all (below (node-count s)) (s .variables))
   pub words : length (config-words s) ≤ part-words * limit
   pub words-small : T (all small-word (config-words s))
   pub next : s .config .next < two-bytes
@@ -54,13 +55,14 @@ pub record Holds (limit : ℕ) (b : List ℕ) (s : State) : Type 0 where
 -- the same as a test
 unfoldable pub fits : ℕ → State → Bool
 fits limit s =
-    leb (suc (length (s .cells))) most-nodes
+    leb (node-count s) most-nodes
     && lowered 1 (s .cells)
     && distinct (s .cells)
     && leb (length (rules-words s)) most-program-words
+    && leb (node-count s + length (rules-words s)) most-rules
     && all small-word (rules-words s)
     && leb (length (s .variables)) most-query-variables
-    && all (below (suc (length (s .cells)))) (s .variables)
+    && all (below (node-count s)) (s .variables)
     && leb (length (config-words s)) (part-words * limit)
     && all small-word (config-words s)
     && ltb (s .config .next) two-bytes
@@ -79,7 +81,7 @@ piece o n b = take (3 * n) (drop o b)
 -- by the counts h of the header
 unfoldable pub parsed : List ℕ → List ℕ → Option State
 parsed h b =
-    built (triples (piece header-length (getD h 1 0) b)) (words (piece program-start (getD h 2 0) b)) (triples (piece variables-start (getD h 3 0) b))
+    built (triples (piece header-length (getD h 1 0) b)) (words (piece (program-start (getD h 1 0)) (getD h 2 0) b)) (triples (piece variables-start (getD h 3 0) b))
     (words (piece config-start (getD h 4 0) b)) (getD h 5 0)
 
 -- the state that bytes hold: the only one that could have these bytes, if it has them

@@ -1,10 +1,10 @@
 -- The lengths of a store's regions, each in one place. Assumes nothing.
-use Prim.Native.Nat.{ℕ, _+_, _*_, _/_}
+use Prim.Native.Nat.{ℕ, _+_, _-_, _*_, _/_}
 use Rattle.akl.specs.Limits.{program-bytes, query-bytes, most-query-variables}
 
--- the number of this form, the first number in a store
+-- the number of this form, the first number in a store; in form 1 the names and the program had a region each
 abbrev pub form-number : ℕ
-form-number = 1
+form-number = 2
 
 -- how many numbers the header has: the form, the counts of the four regions, the next fresh number
 abbrev pub header-numbers : ℕ
@@ -18,6 +18,11 @@ most-nodes = 9 + program-bytes + query-bytes
 unfoldable pub most-program-words : ℕ
 most-program-words = 5 * program-bytes / 2
 
+-- both together: five words come from a name and the mark behind it, and no mark makes a node; so at most three for a byte of the
+-- program's text, as in `p,q,r`, and a node for each byte of the query's
+unfoldable pub most-rules : ℕ
+most-rules = 9 + query-bytes + 3 * program-bytes
+
 -- words of a configuration for each part: a member that is an atom with 8 arguments has as many
 abbrev pub part-words : ℕ
 part-words = 14
@@ -30,11 +35,9 @@ two-bytes = 65536
 unfoldable pub header-length : ℕ
 header-length = 3 * header-numbers
 
-unfoldable pub names-length : ℕ
-names-length = 3 * most-nodes
-
-unfoldable pub program-length : ℕ
-program-length = 3 * most-program-words
+-- what n nodes leave to the program of the region that it shares with the names
+unfoldable pub program-length : ℕ → ℕ
+program-length n = 3 * (most-rules - n)
 
 unfoldable pub variables-length : ℕ
 variables-length = 3 * most-query-variables
@@ -42,12 +45,12 @@ variables-length = 3 * most-query-variables
 unfoldable pub config-length : ℕ → ℕ
 config-length limit = 3 * (part-words * limit)
 
--- where the regions begin
-unfoldable pub program-start : ℕ
-program-start = header-length + names-length
+-- where the regions begin, the program's behind n nodes
+unfoldable pub program-start : ℕ → ℕ
+program-start n = header-length + 3 * n
 
 unfoldable pub variables-start : ℕ
-variables-start = program-start + program-length
+variables-start = header-length + 3 * most-rules
 
 unfoldable pub config-start : ℕ
 config-start = variables-start + variables-length

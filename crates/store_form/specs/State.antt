@@ -23,6 +23,10 @@ pub record State : Type 0 where
 abbrev pub table : State → List ℕ
 table s = 0 ∷ s .cells
 
+-- how many nodes it has
+abbrev pub node-count : State → ℕ
+node-count s = suc (length (s .cells))
+
 -- The number of a name: the first node that has it among k from i on; none has the number 65,536, which no word holds.
 unfoldable pub number-from : ℕ → ℕ → List ℕ → Name → ℕ
 number-from zero i N f = two-bytes

@@ -10,7 +10,7 @@ pub fn header_bytes(nodes: usize, rules: usize, variables: usize, words: usize, 
     ensures { λ r. ⌜ r ≡ numbers-bytes (form-number ∷ nodes ∷ rules ∷ variables ∷ words ∷ next ∷ []) ⌝ }
 {
     [
-        1,
+        2,
         0,
         0,
         (nodes % 256) as u8,

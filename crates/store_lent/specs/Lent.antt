@@ -2,7 +2,7 @@
 use Prim.Native.Nat.{ℕ}
 
 abbrev pub store-bytes-lent : ℕ
-store-bytes-lent = 270429
+store-bytes-lent = 245853
 
 abbrev pub working-bytes : ℕ
 working-bytes = 524288

@@ -54,6 +54,7 @@ module _ (text query N D : List ℕ) (r : List ℕ) (Q : List ℕ) (g : List ℕ
         root = read .root;
         nodes = read .room .4;
         names = names;
+        few = read .few;
         parents = read .parents;
         apart = read .apart;
         variables = read .variables;

@@ -30,9 +30,10 @@ use Rattle.read_nodes.specs.Spell.{named}
 use Rattle.store_words.specs.Boxes.{local-words, store-words, node-words}
 use Rattle.store_words.proofs.Places.{stmt-front}
 use Rattle.store_words.proofs.Sizes.{size-length}
-use Rattle.store_texts.proofs.Programs.{program-words-few}
-use Rattle.store_form.specs.Sizes.{most-program-words}
-use Rattle.store_form.specs.State.{State, table, number-in, names-of, well-formed-state}
+use Rattle.store_texts.proofs.Programs.{program-words-few, names-and-words-few}
+use Rattle.store_texts.proofs.Queries.{query-short}
+use Rattle.store_form.specs.Sizes.{most-program-words, most-rules}
+use Rattle.store_form.specs.State.{State, table, node-count, number-in, names-of, well-formed-state}
 use Rattle.store_form.specs.Form.{rules-words, config-words}
 use Rattle.store_form.specs.Holding.{below, Fits}
 use Rattle.store_form.proofs.Names.{number-named}
@@ -109,6 +110,13 @@ module _ (text query N : List ℕ) (R : List Word) (Q : List ℕ) (G : List Word
   unfolding rules-words
   rules-few = let f = program-words-few text P (left .reads-program) num in enough-words (length (program-words num P)) (length text) (f .0) (f .1)
 
+  pub rules-together : node-count s + length (rules-words s) ≤ most-rules
+  unfolding rules-words most-rules
+  rules-together =
+      let k = cells-count N m (left .root) (left .nodes) (left .parents) (left .apart) in
+      let f = names-and-words-few text P (left .reads-program) num m (9 + length query) (λ ts e. omega (arith, left .few ts e)) in
+      omega (arith, k, f, program-words-few text P (left .reads-program) num .1, query-short P query q (left .reads-query))
+
   module _ (limit : ℕ) (c : Config) (fit : start limit q ≡ ok c) where
     start-is : start-config q ≡ c
     unfolding start
@@ -129,6 +137,7 @@ module _ (text query N : List ℕ) (R : List Word) (Q : List ℕ) (G : List Word
           lower = cells-lower N m (left .root) (left .nodes) (left .parents) (left .apart);
           apart = cells-apart N m (left .root) (left .nodes) (left .parents) (left .apart);
           rules = rules-few;
+          together = rules-together;
           rules-small = all-small (rules-words s) (subst AllSmall (sym start-rules) (left .rules-small));
           variables = omega (arith, l, e, size-length (q .variables), length-map (take v Q) (named N));
           known = subst (λ (n : ℕ). T (all (below n) (take v Q))) (sym k) (left .known);

@@ -3,10 +3,12 @@
 -- Assumes nothing.
 use mathlib.Core.Path.{_≡_}
 use mathlib.Core.List.{List, [], _∷_, _++_, map}
-use Prim.Native.Nat.{ℕ, _≤_, _<_}
+use mathlib.Core.Option.{some}
+use Prim.Native.Nat.{ℕ, _+_, _≤_, _<_}
 use lib.Dec.{T}
 use lib.ListN.{length, take, drop}
 use Rattle.akl.specs.Base.{Name, size, range, all, ok}
+use Rattle.akl.specs.Token.{Token, tokens}
 use Rattle.akl.specs.Syntax.{Program}
 use Rattle.akl.specs.Reader.{Query, read-program, read-query}
 use Rattle.akl.specs.Configuration.{start-config}
@@ -17,6 +19,7 @@ use Rattle.mem_sorts.specs.declared.Kind.the-variants.{Or, And, Member}
 use Rattle.mem_sorts.specs.declared.Sort.the-variants.{Locals, Store}
 use Rattle.layout.specs.Layout.{stmt-words, program-words}
 use Rattle.read_nodes.specs.Spell.{named, Lower}
+use Rattle.read_lexed.specs.Marks.{marks}
 use Rattle.store_words.specs.Boxes.{local-words}
 use Rattle.store_form.specs.Sizes.{most-nodes}
 use Rattle.store_form.specs.State.{State}
@@ -30,6 +33,8 @@ pub record Left (text query N : List ℕ) (R : List Word) (Q : List ℕ) (G : Li
   pub root : 1 ≤ m
   pub nodes : m ≤ length N
   pub names : length N ≤ most-nodes
+  -- as the reader says (read_inputs: Inputs)
+  pub few : (ts : List Token) → tokens text ≡ some ts → m + marks ts ≤ 9 + length text + length query
   -- a parent is lower; numbers of names below m and names are one-to-one
   pub parents : Lower N m
   pub apart : (i j : ℕ) → i < m → j < m → named N i ≡ named N j → i ≡ j

@@ -1,3 +1,4 @@
 pub mod Trees
 pub mod Marks
 pub mod Programs
+pub mod Queries

@@ -21,7 +21,7 @@ use Rattle.layout.specs.Layout.{program-words}
 use Rattle.store_texts.proofs.Trees.{program-few}
 use Rattle.store_texts.proofs.Marks.{program-marked}
 
-size-length : {A : Type 0} (l : List A) → size l ≡ length l
+pub size-length : {A : Type 0} (l : List A) → size l ≡ length l
 unfolding size
 size-length [] = refl
 size-length (x ∷ l) = omega (arith, size-length l)

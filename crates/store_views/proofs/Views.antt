@@ -10,15 +10,15 @@ use lib.Seq.{take-append-le, drop-append-le}
 use Rattle.mem_numbers.specs.Numbers.{triples}
 use Rattle.mem_words.specs.Words.{words}
 use Rattle.mem_parts.specs.Parts.{cut}
-use Rattle.store_form.specs.Sizes.{most-program-words, header-length, config-length, store-length}
-use Rattle.store_form.specs.State.{State}
+use Rattle.store_form.specs.Sizes.{most-rules, header-length, config-length, program-start, store-length}
+use Rattle.store_form.specs.State.{State, node-count}
 use Rattle.store_form.specs.Form.{rules-words, config-words, header, store-bytes}
 use Rattle.store_form.specs.Holding.{Fits, piece}
 use Rattle.store_form.proofs.Lengths.{starts}
 use Rattle.store_form.proofs.Reading as reading
 use Rattle.store_calls.specs.Outcomes.{held}
 use Rattle.store_calls.proofs.Any.{held-iff}
-use Rattle.check_held.specs.Checks.{numbers-in, rules-in, words-in, next-in}
+use Rattle.check_held.specs.Checks.{numbers-in, nodes-in, rules-in, words-in, next-in}
 
 -- a piece, as it is lent
 cut-piece : (o k : ℕ) (l : List ℕ) → cut o (o + 3 * k) l ≡ piece o k l
@@ -30,20 +30,20 @@ piece-front : (o k : ℕ) (x r : List ℕ) → o + 3 * k ≤ length x → piece 
 unfolding piece
 piece-front o k x r h = ap (take (3 * k)) (drop-append-le o x r (omega arith)) ∙ take-append-le (3 * k) (drop o x) r (omega (arith, length-drop o x))
 
-few-words : most-program-words ≤ 40960
-unfolding most-program-words
-few-words = omega arith
+few-rules : most-rules ≤ 53257
+unfolding most-rules
+few-rules = omega arith
 
 -- where the configuration's region ends
-pub config-end : (limit : ℕ) → store-length limit ≡ 184413 + 42 * limit
+pub config-end : (limit : ℕ) → store-length limit ≡ 159837 + 42 * limit
 unfolding store-length config-length
-config-end limit = omega (arith, starts .3)
+config-end limit = omega (arith, starts .2)
 
 module _ (limit : ℕ) (low : limit ≤ 65536) (s : State) (F : Fits limit s) (rest b : List ℕ) (is : b ≡ store-bytes limit s ++ rest) where
   abbrev x : List ℕ
   x = store-bytes limit s
 
-  long : length x ≡ 184413 + 42 * limit
+  long : length x ≡ 159837 + 42 * limit
   long = reading.bytes-length limit low s F ∙ config-end limit
 
   pub numbers-are : numbers-in b ≡ header s
@@ -54,6 +54,10 @@ module _ (limit : ℕ) (low : limit ≤ 65536) (s : State) (F : Fits limit s) (r
       ∙ reading.header-read limit low s F
 
   -- the counts
+  pub nodes-counted : nodes-in b ≡ node-count s
+  unfolding header
+  nodes-counted = ap (λ (h : List ℕ). getD h 1 0) numbers-are
+
   pub program-counted : rules-in b ≡ length (rules-words s)
   unfolding header
   program-counted = ap (λ (h : List ℕ). getD h 2 0) numbers-are
@@ -67,10 +71,10 @@ module _ (limit : ℕ) (low : limit ≤ 65536) (s : State) (F : Fits limit s) (r
   next-told = ap (λ (h : List ℕ). getD h 5 0) numbers-are
 
   -- what they count lies in its region
-  pub program-within : 61485 + 3 * rules-in b ≤ 184365
-  program-within = omega (arith, program-counted, F .rules, few-words)
+  pub program-within : 18 + 3 * nodes-in b + 3 * rules-in b ≤ 159789
+  program-within = omega (arith, nodes-counted, program-counted, F .together, few-rules)
 
-  pub config-within : 184413 + 3 * words-in b ≤ store-length limit
+  pub config-within : 159837 + 3 * words-in b ≤ store-length limit
   config-within = omega (arith, config-counted, F .words, config-end limit)
 
   pub store-within : store-length limit ≤ length b
@@ -80,16 +84,20 @@ module _ (limit : ℕ) (low : limit ≤ 65536) (s : State) (F : Fits limit s) (r
   there : (o k : ℕ) → o + 3 * k ≤ length x → cut o (o + 3 * k) b ≡ piece o k x
   there o k h = cut-piece o k b ∙ ap (piece o k) is ∙ piece-front o k x rest h
 
-  pub program-there : words (cut 61485 (61485 + 3 * rules-in b) b) ≡ rules-words s
+  begins : 18 + 3 * nodes-in b ≡ program-start (node-count s)
+  unfolding program-start
+  begins = omega (arith, nodes-counted, starts .0)
+
+  pub program-there : words (cut (18 + 3 * nodes-in b) (18 + 3 * nodes-in b + 3 * rules-in b) b) ≡ rules-words s
   program-there =
-      ap words (there 61485 (rules-in b) (omega (arith, program-within, long)))
-      ∙ ap₂ (λ (o k : ℕ). words (piece o k x)) (sym (starts .1)) program-counted
+      ap words (there (18 + 3 * nodes-in b) (rules-in b) (omega (arith, program-within, long)))
+      ∙ ap₂ (λ (o k : ℕ). words (piece o k x)) begins program-counted
       ∙ reading.rules-read limit low s F
 
-  pub config-there : words (cut 184413 (184413 + 3 * words-in b) b) ≡ config-words s
+  pub config-there : words (cut 159837 (159837 + 3 * words-in b) b) ≡ config-words s
   config-there =
-      ap words (there 184413 (words-in b) (omega (arith, config-within, long, config-end limit)))
-      ∙ ap₂ (λ (o k : ℕ). words (piece o k x)) (sym (starts .3)) config-counted
+      ap words (there 159837 (words-in b) (omega (arith, config-within, long, config-end limit)))
+      ∙ ap₂ (λ (o k : ℕ). words (piece o k x)) (sym (starts .2)) config-counted
       ∙ reading.config-read limit low s F
 
 -- bytes that hold a state begin with its bytes

@@ -1,8 +1,17 @@
-// The counts in a store's header: how many words the program and the configuration have, and the next fresh number.
+// The counts in a store's header: where the program begins, how many words it and the configuration have, and the next fresh number.
 ghost use mathlib.Core.Path.{_≡_};
-ghost use Prim.Native.Nat.{_≤_, _<_};
+ghost use Prim.Native.Nat.{_+_, _*_, _≤_, _<_};
 ghost use lib.ListN.{length};
-ghost use Rattle.check_held.specs.Checks.{rules-in, words-in, next-in};
+ghost use Rattle.check_held.specs.Checks.{nodes-in, rules-in, words-in, next-in};
+
+// Where the words of the program begin: behind the names.
+pub fn program_start(b: &[u8]) -> usize
+    requires { ⌜ 18 ≤ length (now b) ⌝ }
+    ensures { λ r. ⌜ r ≡ 18 + 3 * nodes-in (now (b .entry)) ⌝ }
+{
+    let n = mem_parts::get3(b, 0, 18, 1);
+    18 + 3 * n
+}
 
 // How many words the program has.
 pub fn program_count(b: &[u8]) -> usize

@@ -42,7 +42,7 @@ pub struct State {
 type Word = (u8, usize);
 
 /// As many zeros as the longest region has bytes.
-static ZEROS: [u8; 3 * 40_960] = [0; 3 * 40_960];
+static ZEROS: [u8; 3 * 53_257] = [0; 3 * 53_257];
 
 /// The first `count` triples of a region of `room`, zeros behind them.
 fn region<'a>(bytes: &mut &'a [u8], room: usize, count: usize) -> Read<Vec<&'a [u8]>> {
@@ -65,17 +65,19 @@ fn words(triples: &[&[u8]]) -> Vec<Word> {
 
 /// Reads a store.
 pub fn state(bytes: &[u8]) -> Read<State> {
-    let mut rest = &bytes[..270_429];
+    let mut rest = &bytes[..245_853];
     let header = region(&mut rest, 6, 6)?;
     let header: Vec<usize> = header.into_iter().map(number).collect();
     let [form, nodes, rules, variables, goals, next] = header[..] else {
         return Err(No::Formed);
     };
     small(nodes < 200 && rules < 3_000 && goals < 3_000)?;
-    demand(form == 1 && nodes > 0)?;
-    let cells = region(&mut rest, 20_489, nodes)?;
+    demand(form == 2 && nodes > 0)?;
+    demand(nodes <= 20_489 && rules <= 40_960)?;
+    // The program's words stand right behind the names.
+    let mut cells = region(&mut rest, 53_257, nodes + rules)?;
+    let rules = words(&cells.split_off(nodes));
     let cells: Vec<usize> = cells.into_iter().map(number).collect();
-    let rules = words(&region(&mut rest, 40_960, rules)?);
     let variables = region(&mut rest, 16, variables)?;
     let variables: Vec<usize> = variables.into_iter().map(number).collect();
     let goals = words(&region(&mut rest, 28_672, goals)?);

@@ -52,7 +52,8 @@ faults! {
     ProgramCount,
     VariablesCount,
     ConfigCount,
-    UnusedNames,
+    /// Names and program have no room together.
+    TogetherCount,
     UnusedProgram,
     UnusedVariables,
     UnusedConfig,

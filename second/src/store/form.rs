@@ -1,32 +1,31 @@
-//! The form of a store in bytes: a header of six numbers, then four regions of
-//! fixed lengths, zeros behind what is used. Numbers and words have three bytes,
-//! numbers the low byte first.
+//! The form of a store in bytes: a header of six numbers; the names and right
+//! behind them the program; the variables; the configuration. Names and program
+//! together, variables and configuration have fixed lengths, zeros behind what
+//! is used. Numbers and words have three bytes, numbers the low byte first.
 
 use super::fault::{Fault, Faults};
 use crate::limits::{LAST_VARIABLE, PARTS, PROGRAM_BYTES, QUERY_BYTES, QUERY_VARIABLES};
 use crate::words::Word;
 
 /// The number of this form.
-const FORM: u32 = 1;
+const FORM: u32 = 2;
 const HEADER: usize = 6;
 /// The root, four nodes each for `true` and `fail`, one for each byte of texts.
 pub const NODES: usize = 9 + PROGRAM_BYTES + QUERY_BYTES;
 pub const PROGRAM_WORDS: usize = 5 * PROGRAM_BYTES / 2;
+/// Nodes and words of a program together: one byte of a name and the mark behind
+/// it make a node and five words.
+pub const RULES: usize = 9 + QUERY_BYTES + 3 * PROGRAM_BYTES;
 pub const CONFIG_WORDS: usize = 14 * PARTS;
 
-/// How many numbers or words each region holds, and where it begins in bytes.
-const ROOMS: [usize; 4] = [NODES, PROGRAM_WORDS, QUERY_VARIABLES, CONFIG_WORDS];
-const STARTS: [usize; 5] = {
-    let mut starts = [3 * HEADER; 5];
-    let mut region = 0;
-    while region < 4 {
-        starts[region + 1] = starts[region] + 3 * ROOMS[region];
-        region += 1;
-    }
-    starts
-};
+/// The most nodes, words of a program, variables and words of a configuration.
+pub const MOST: [usize; 4] = [NODES, PROGRAM_WORDS, QUERY_VARIABLES, CONFIG_WORDS];
+/// Where names, variables and configuration begin in bytes.
+const NAMES_START: usize = 3 * HEADER;
+const VARIABLES_START: usize = NAMES_START + 3 * RULES;
+const CONFIG_START: usize = VARIABLES_START + 3 * QUERY_VARIABLES;
 /// The documented length of a store.
-pub const LENGTH: usize = STARTS[4];
+pub const LENGTH: usize = CONFIG_START + 3 * CONFIG_WORDS;
 
 /// The numbers and words of a store.
 #[derive(Clone, Debug, Default, PartialEq, Eq)]
@@ -60,9 +59,13 @@ pub fn set_header(bytes: &mut [u8], index: usize, value: u32) {
     bytes[3 * index..3 * index + 3].copy_from_slice(&triple(value));
 }
 
-/// Where the bytes of a region begin and end.
-pub fn region(index: usize) -> std::ops::Range<usize> {
-    STARTS[index]..STARTS[index + 1]
+/// Where names, program, variables and configuration begin and end, by the
+/// header's count of nodes.
+pub fn region(bytes: &[u8], index: usize) -> std::ops::Range<usize> {
+    let nodes = (header(bytes, 1) as usize).min(RULES);
+    let program = NAMES_START + 3 * nodes;
+    let starts = [NAMES_START, program, VARIABLES_START, CONFIG_START, LENGTH];
+    starts[index]..starts[index + 1]
 }
 
 impl Raw {
@@ -82,7 +85,8 @@ impl Raw {
             set_header(bytes, index, number);
         }
         let fill = |bytes: &mut [u8], index: usize, all: &mut dyn Iterator<Item = [u8; 3]>| {
-            let room = bytes[region(index)].chunks_exact_mut(3);
+            let region = region(bytes, index);
+            let room = bytes[region].chunks_exact_mut(3);
             for (to, from) in room.zip(all) {
                 to.copy_from_slice(&from);
             }
@@ -114,8 +118,9 @@ impl Raw {
             Fault::VariablesCount,
             Fault::ConfigCount,
         ];
+        // Behind the names the program begins, so that nothing is unused there.
         let unused = [
-            Fault::UnusedNames,
+            Fault::NodesCount,
             Fault::UnusedProgram,
             Fault::UnusedVariables,
             Fault::UnusedConfig,
@@ -123,11 +128,16 @@ impl Raw {
         for index in 0..4 {
             let count = header(bytes, index + 1) as usize;
             // The root is always there.
-            if count > ROOMS[index] || (index == 0 && count == 0) {
+            if count > MOST[index] || (index == 0 && count == 0) {
                 faults.note(over[index]);
                 continue;
             }
-            let (used, rest) = bytes[region(index)].split_at(3 * count);
+            let region = &bytes[region(bytes, index)];
+            if region.len() < 3 * count {
+                faults.note(Fault::TogetherCount);
+                continue;
+            }
+            let (used, rest) = region.split_at(3 * count);
             faults.note_if(!zero(rest), unused[index]);
             let numbers = used.chunks_exact(3).map(number);
             let words = used.chunks_exact(3).map(Word::of_bytes);
@@ -178,8 +188,11 @@ mod tests {
 
     #[test]
     fn lengths() {
-        assert_eq!(STARTS[..2], [18, 61_485]);
-        assert_eq!(STARTS[2..], [184_365, 184_413, 270_429]);
-        assert_eq!(LENGTH, 270_429);
+        let starts = [NAMES_START, VARIABLES_START, CONFIG_START, LENGTH];
+        assert_eq!(starts, [18, 159_789, 159_837, 245_853]);
+        let mut bytes = vec![0; LENGTH];
+        set_header(&mut bytes, 1, 100);
+        assert_eq!(region(&bytes, 0), 18..318);
+        assert_eq!(region(&bytes, 1), 318..159_789);
     }
 }

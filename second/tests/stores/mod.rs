@@ -62,15 +62,15 @@ fn a_linked_test_is_compared() {
 fn the_start_in_bytes() {
     let raw = start("", "X = a.");
     let bytes = raw.bytes();
-    assert_eq!(bytes.len(), 270_429);
-    // 1, then root and 4 nodes each of `true` and `fail`, X and a, then counts.
+    assert_eq!(bytes.len(), 245_853);
+    // The form, root and 4 nodes each of `true` and `fail`, X and a, then counts.
     let numbers: Vec<u32> = (0..6).map(|index| header(&bytes, index)).collect();
-    assert_eq!(numbers, [1, 11, 0, 1, 15, 1]);
+    assert_eq!(numbers, [2, 11, 0, 1, 15, 1]);
     // "t" is node 1, "r" behind it 2; "X" is node 9, "a" node 10.
-    let names = &bytes[region(0)];
+    let names = &bytes[region(&bytes, 0)];
     assert_eq!(names[3..9], [b't', 0, 0, b'r', 1, 0]);
-    assert_eq!(names[27..36], [b'X', 0, 0, b'a', 0, 0, 0, 0, 0]);
-    assert_eq!(bytes[region(2)][..6], [9, 0, 0, 0, 0, 0]);
+    assert_eq!(names[27..], [b'X', 0, 0, b'a', 0, 0]);
+    assert_eq!(bytes[region(&bytes, 2)][..6], [9, 0, 0, 0, 0, 0]);
     let words = [
         [4, 0, 0],
         [4, 1, 0],
@@ -88,7 +88,7 @@ fn the_start_in_bytes() {
         [0, 0, 0],
         [0, 0, 0],
     ];
-    assert_eq!(bytes[region(3)][..45], words.concat());
+    assert_eq!(bytes[region(&bytes, 3)][..45], words.concat());
     assert!(refusal_9(&bytes).is_some());
 }
 
@@ -106,10 +106,11 @@ fn zeros_are_no_store() {
     let mut bytes = vec![0; LENGTH];
     assert!(refusal_9(&bytes).is_none());
     // The least store: the root, and an empty or-box.
-    set_header(&mut bytes, 0, 1);
+    set_header(&mut bytes, 0, 2);
     set_header(&mut bytes, 1, 1);
     set_header(&mut bytes, 4, 2);
-    bytes[region(3)][0] = 4;
+    let config = region(&bytes, 3);
+    bytes[config][0] = 4;
     assert!(refusal_9(&bytes).is_some());
     set_header(&mut bytes, 1, 0);
     assert!(refusal_9(&bytes).is_none());

@@ -327,7 +327,7 @@ pub fn no_store(random: &mut Random) -> Vec<u8> {
     if kind > 1 {
         let rooms = [1, 20_489, 40_960, 16, 28_672, 65_535];
         for (index, room) in rooms.into_iter().enumerate() {
-            set_header(&mut bytes, index, if index == 0 { 1 } else { random.below(room + 2) as u32 });
+            set_header(&mut bytes, index, if index == 0 { 2 } else { random.below(room + 2) as u32 });
         }
     }
     if kind > 2 {

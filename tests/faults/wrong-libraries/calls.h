@@ -3,7 +3,7 @@
 #include <stddef.h>
 #include <string.h>
 
-#define STORE 270429
+#define STORE 245853
 #define WORKING 524288
 
 typedef unsigned char byte;

@@ -81,7 +81,7 @@ fn lengths() -> Result<String, String> {
                 for working in [
                     0,
                     1,
-                    270_429,
+                    245_853,
                     WORKING - 1,
                     WORKING,
                     WORKING + 1,

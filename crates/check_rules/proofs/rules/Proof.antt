@@ -56,7 +56,7 @@ same-length c = c .before .before .before .names .kept .1 .1 .0
 
 returns : tie.Need-returns
 unfolding cut names-of-store variables-of-store rules-of-store
-returns c = record { told = names-refused (triples (cut 18 (18 + 3 * c .before .before .before .before .before .before .before .before .before .args .m) (c .before .before .before .before .before .before .before .before .before .args .store .now))) (triples (cut 184365 (184365 + 3 * c .before .before .before .before .before .before .before .before .before .args .q) (c .before .before .before .before .before .before .before .before .before .args .store .now))) (words (cut 61485 (61485 + 3 * c .before .before .before .before .before .before .before .before .before .args .r) (c .before .before .before .before .before .before .before .before .before .args .store .now))) (c .before .before .before .before .before .before .before .before .before .args .m) (kindsOf (c .before .before .before .names .last .1 .1 .0)) (c .before .before .before .names .last .1 .1 .0) (c .before .before .before .names .result) (not-true (c .before .before .before .names .result) (c .if1 .taken)) (c .before .before .before .names .ensures .0); long = c .before .before .before .names .kept .1 .1 .0 }
+returns c = record { told = names-refused (triples (cut 18 (18 + 3 * c .before .before .before .before .before .before .before .before .before .args .m) (c .before .before .before .before .before .before .before .before .before .args .store .now))) (triples (cut 159789 (159789 + 3 * c .before .before .before .before .before .before .before .before .before .args .q) (c .before .before .before .before .before .before .before .before .before .args .store .now))) (words (cut (18 + 3 * c .before .before .before .before .before .before .before .before .before .args .m) (18 + 3 * c .before .before .before .before .before .before .before .before .before .args .m + 3 * c .before .before .before .before .before .before .before .before .before .args .r) (c .before .before .before .before .before .before .before .before .before .args .store .now))) (c .before .before .before .before .before .before .before .before .before .args .m) (kindsOf (c .before .before .before .names .last .1 .1 .0)) (c .before .before .before .names .last .1 .1 .0) (c .before .before .before .names .result) (not-true (c .before .before .before .names .result) (c .if1 .taken)) (c .before .before .before .names .ensures .0); long = c .before .before .before .names .kept .1 .1 .0 }
 
 mul-e : tie.Need-mul-e
 mul-e c = search needs
@@ -78,7 +78,7 @@ unfolding cut
 program-requires c κs =
     let s = c .before .before .before .before .before .before .before .before .before .before .before .args .store .now in
     let p = c .before .before .before .before .before .before .before .before .before .before .before .pre in
-    record { tables = record { long = omega (arith, p .working, c .before .before .before .before .before .names .kept .1 .1 .0); names = p .names }; short = omega (arith, long-rules s (c .before .before .before .before .before .before .before .before .before .before .before .args .r) (omega (arith, p .store, p .rules)), p .rules) }
+    record { tables = record { long = omega (arith, p .working, c .before .before .before .before .before .names .kept .1 .1 .0); names = p .names }; short = omega (arith, long-rules s (18 + 3 * c .before .before .before .before .before .before .before .before .before .before .before .args .m) (c .before .before .before .before .before .before .before .before .before .before .before .args .r) (omega (arith, p .store, p .together)), p .rules) }
 
 same-length-2 : tie.Need-same-length-2
 same-length-2 c = c .before .before .program .kept .0 ∙ c .before .before .before .before .before .before .before .before .names .kept .1 .1 .0
@@ -89,7 +89,7 @@ returns-2 c =
     let s = c .before .before .before .before .before .before .before .before .before .before .before .before .before .before .args .store .now in
     let p = c .before .before .before .before .before .before .before .before .before .before .before .before .before .before .pre in
     record {
-      told = rules-told (triples (cut 18 (18 + 3 * c .before .before .before .before .before .before .before .before .before .before .before .before .before .before .args .m) (c .before .before .before .before .before .before .before .before .before .before .before .before .before .before .args .store .now))) (triples (cut 184365 (184365 + 3 * c .before .before .before .before .before .before .before .before .before .before .before .before .before .before .args .q) (c .before .before .before .before .before .before .before .before .before .before .before .before .before .before .args .store .now))) (words (cut 61485 (61485 + 3 * c .before .before .before .before .before .before .before .before .before .before .before .before .before .before .args .r) (c .before .before .before .before .before .before .before .before .before .before .before .before .before .before .args .store .now))) (c .before .before .before .before .before .before .before .before .before .before .before .before .before .before .args .m) (c .before .before .before .before .before .before .before .before .names .last .1 .1 .0) (c .before .before .program .last .0) (c .before .before .before .before .before .before .before .before .names .result) (c .before .before .program .result) (sym (long-names s (c .before .before .before .before .before .before .before .before .before .before .before .before .before .before .args .m) (omega (arith, p .store, p .names)))) (cut-small 61485 (61485 + 3 * c .before .before .before .before .before .before .before .before .before .before .before .before .before .before .args .r) s (λ i. omega (arith, c .before .before .before .before .before .before .before .before .before .before .before .before .before .shared-slice-known .given i))) (omega (arith, p .working, c .before .before .before .before .before .before .before .before .names .kept .1 .1 .0)) (p .names) (not-false (c .before .before .before .before .before .before .before .before .names .result) (c .before .before .before .before .before .if1 .left)) (c .before .before .before .before .before .before .before .before .names .ensures .0) (c .before .before .program .ensures);
+      told = rules-told (triples (cut 18 (18 + 3 * c .before .before .before .before .before .before .before .before .before .before .before .before .before .before .args .m) (c .before .before .before .before .before .before .before .before .before .before .before .before .before .before .args .store .now))) (triples (cut 159789 (159789 + 3 * c .before .before .before .before .before .before .before .before .before .before .before .before .before .before .args .q) (c .before .before .before .before .before .before .before .before .before .before .before .before .before .before .args .store .now))) (words (cut (18 + 3 * c .before .before .before .before .before .before .before .before .before .before .before .before .before .before .args .m) (18 + 3 * c .before .before .before .before .before .before .before .before .before .before .before .before .before .before .args .m + 3 * c .before .before .before .before .before .before .before .before .before .before .before .before .before .before .args .r) (c .before .before .before .before .before .before .before .before .before .before .before .before .before .before .args .store .now))) (c .before .before .before .before .before .before .before .before .before .before .before .before .before .before .args .m) (c .before .before .before .before .before .before .before .before .names .last .1 .1 .0) (c .before .before .program .last .0) (c .before .before .before .before .before .before .before .before .names .result) (c .before .before .program .result) (sym (long-names s (c .before .before .before .before .before .before .before .before .before .before .before .before .before .before .args .m) (omega (arith, p .store, p .names)))) (cut-small (18 + 3 * c .before .before .before .before .before .before .before .before .before .before .before .before .before .before .args .m) (18 + 3 * c .before .before .before .before .before .before .before .before .before .before .before .before .before .before .args .m + 3 * c .before .before .before .before .before .before .before .before .before .before .before .before .before .before .args .r) s (λ i. omega (arith, c .before .before .before .before .before .before .before .before .before .before .before .before .before .shared-slice-known .given i))) (omega (arith, p .working, c .before .before .before .before .before .before .before .before .names .kept .1 .1 .0)) (p .names) (not-false (c .before .before .before .before .before .before .before .before .names .result) (c .before .before .before .before .before .if1 .left)) (c .before .before .before .before .before .before .before .before .names .ensures .0) (c .before .before .program .ensures);
       long = c .before .before .program .kept .0 ∙ c .before .before .before .before .before .before .before .before .names .kept .1 .1 .0;
     }
 

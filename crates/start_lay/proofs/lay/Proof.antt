@@ -54,11 +54,10 @@ fill-requires c κs =
     let n = few-grown (words (c .before .before .before .before .before .before .before .before .before .before .before .before .before .before .before .before .before .before .args .goal .now)) (c .before .before .before .before .before .before .before .before .before .before .before .before .before .before .before .before .before .before .args .b) (c .before .before .before .before .before .before .before .before .before .before .before .before .before .before .before .before .before .before .args .v) (c .before .before .before .before .before .before .before .before .before .before .before .before .before .before .before .before .before .before .pre .goal) (c .before .before .before .before .before .before .first .ensures) in
     record {
       store = p .store;
-      header = ap length (c .before .before .before .before .header-bytes .ensures) ∙ length-numbers-bytes (1 ∷ c .before .before .before .before .before .before .before .before .before .before .before .before .before .before .before .before .before .before .args .m ∷ c .before .before .before .before .before .before .before .before .before .before .before .before .before .before .before .before .before .before .args .a ∷ c .before .before .before .before .before .before .before .before .before .before .before .before .before .before .before .before .before .before .args .v ∷ c .before .before .before .before .before .before .first .result ∷ c .before .before .before .before .before .before .before .before .before .before .before .before .before .before .before .before .before .before .args .v ∷ []);
+      header = ap length (c .before .before .before .before .header-bytes .ensures) ∙ length-numbers-bytes (2 ∷ c .before .before .before .before .before .before .before .before .before .before .before .before .before .before .before .before .before .before .args .m ∷ c .before .before .before .before .before .before .before .before .before .before .before .before .before .before .before .before .before .before .args .a ∷ c .before .before .before .before .before .before .before .before .before .before .before .before .before .before .before .before .before .before .args .v ∷ c .before .before .before .before .before .before .first .result ∷ c .before .before .before .before .before .before .before .before .before .before .before .before .before .before .before .before .before .before .args .v ∷ []);
       names = p .names;
-      few-names = p .few-names;
       rules = p .rules;
-      few-rules = p .few-rules;
+      together = p .together;
       variables = omega (arith, p .few-variables, c .before .before .before .before .before .before .before .before .before .before .before .before .variables-space .ensures, c .before .before .before .before .before .before .before .before .before .before .widen .kept .1 .1 .0);
       few-variables = p .few-variables;
       words = omega (arith, p .few-words, n, p .goal, c .before .before .before .before .before .before .before .before .words-space .ensures, c .before .before .before .before .before .before .first .kept .1 .1 .1 .0);

@@ -40,7 +40,7 @@ lay-requires : tie.Need-lay-requires
 lay-requires c κs =
     let p = c .before .before .before .before .before .before .before .before .before .before .before .pre in
     let f = first-counted (c .before .before .before .before .before .before .before .before .before .before .before .args .goal .now) (c .before .before .before .before .before .before .before .before .before .before .before .args .b) (c .before .before .before .before .before .before .before .before .before .before .before .args .v) (c .before .before .parts .result) (omega (arith, p .goal, length-words (c .before .before .before .before .before .before .before .before .before .before .before .args .goal .now))) (c .before .before .parts .ensures .0) in
-    record { store = omega arith; names = p .names; few-names = p .few-names; rules = p .rules; few-rules = p .few-rules; variables = p .variables; few-variables = p .few-variables; goal = p .goal; few-words = p .fits (omega (arith, f)); good = p .good }
+    record { store = omega arith; names = p .names; rules = p .rules; together = p .together; variables = p .variables; few-variables = p .few-variables; goal = p .goal; few-words = p .fits (omega (arith, f)); good = p .good }
 
 same-length : tie.Need-same-length
 same-length c = c .before .before .lay .kept .1 .1 .1 .1 .1 .1 .1 .1 .0

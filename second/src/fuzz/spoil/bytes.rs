@@ -1,13 +1,13 @@
 //! Changes of bytes and of the header.
 
 use crate::random::Random;
-use crate::store::form::{header, region, set_header, LENGTH};
+use crate::store::form::{header, region, set_header, LENGTH, MOST};
 
 /// Changes a few bytes; what was done.
 pub fn spoil_bytes(random: &mut Random, bytes: &mut [u8]) -> &'static str {
     let index = random.below(4);
     let count = header(bytes, index + 1) as usize;
-    let region = region(index);
+    let region = region(bytes, index);
     let used = region.start + (3 * count).min(region.len());
     match random.below(7) {
         0 => {
@@ -16,7 +16,7 @@ pub fn spoil_bytes(random: &mut Random, bytes: &mut [u8]) -> &'static str {
             "a byte of the header"
         }
         1 => {
-            let room = region.len() as u32 / 3;
+            let room = MOST[index] as u32;
             let count = count as u32;
             let values = [
                 0,
@@ -30,7 +30,7 @@ pub fn spoil_bytes(random: &mut Random, bytes: &mut [u8]) -> &'static str {
             "a count"
         }
         2 => {
-            let values = [0, 2, 257, 65_537];
+            let values = [0, 1, 258, 65_538];
             set_header(bytes, 0, *random.pick(&values));
             "the number of the form"
         }

@@ -27,7 +27,7 @@ pub struct Patient<'a> {
 type Change = fn(&mut Patient) -> Option<()>;
 
 /// The changes, with names for people.
-const CHANGES: [(&str, Change); 45] = [
+const CHANGES: [(&str, Change); 46] = [
     ("a word", noise::word_changed),
     ("a word inserted", noise::word_inserted),
     ("a word removed", noise::word_removed),
@@ -54,6 +54,7 @@ const CHANGES: [(&str, Change); 45] = [
     ("parameters", tables::parameters),
     ("definitions", tables::definitions),
     ("a program's words", tables::program_words),
+    ("names and program", tables::names_and_program),
     ("a definition twice or gone", tables::definition),
     ("query variables", tables::variables),
     ("the next number", tables::next),

@@ -2,7 +2,7 @@
 
 use super::{Patient, Side};
 use crate::limits::{ARGUMENTS, DEFINITIONS, QUERY_VARIABLES};
-use crate::store::form::{NODES, PROGRAM_WORDS};
+use crate::store::form::{NODES, PROGRAM_WORDS, RULES};
 use crate::store::tree::Definition;
 use crate::words::*;
 
@@ -66,8 +66,23 @@ pub fn definitions(patient: &mut Patient) -> Option<()> {
 
 /// As many words of a program as may be, or one more, in one definition.
 pub fn program_words(patient: &mut Patient) -> Option<()> {
+    let wanted = patient.limit(PROGRAM_WORDS);
+    fill_program(patient, wanted)
+}
+
+/// As many nodes and words of a program together as may be, or one more.
+pub fn names_and_program(patient: &mut Patient) -> Option<()> {
+    fill_program(patient, PROGRAM_WORDS)?;
+    let there = patient.raw.cells.len() + PROGRAM_WORDS;
+    let count = patient.limit(RULES).checked_sub(there)?;
+    add_nodes(patient, count);
+    Some(())
+}
+
+/// One definition more, so that the program has as many words as are wanted.
+fn fill_program(patient: &mut Patient, wanted: usize) -> Option<()> {
     let length = patient.raw.program.len();
-    let missing = patient.limit(PROGRAM_WORDS).checked_sub(length + 8)? + 8;
+    let missing = wanted.checked_sub(length + 8)? + 8;
     let name = word(NUM, patient.node(b"true"));
     let x = word(LEVEL, 0);
     // Four words for each atom of two with its composition or the head, and
@@ -210,6 +225,20 @@ pub fn cell(patient: &mut Patient) -> Option<()> {
     Some(())
 }
 
+/// Nodes that no name needs.
+fn add_nodes(patient: &mut Patient, count: usize) {
+    let mut there: std::collections::HashSet<u32> =
+        patient.raw.cells[1..].iter().copied().collect();
+    let most = patient.raw.cells.len() + count;
+    while patient.raw.cells.len() < most {
+        let parent = patient.random.below(patient.raw.cells.len()) as u32;
+        let cell = 256 * parent + patient.random.below(256) as u32;
+        if there.insert(cell) {
+            patient.raw.cells.push(cell);
+        }
+    }
+}
+
 /// Nodes that no name needs, right or wrong, some or as many as may be.
 pub fn nodes(patient: &mut Patient) -> Option<()> {
     let mut count = patient.random.between(1, 5);
@@ -218,16 +247,7 @@ pub fn nodes(patient: &mut Patient) -> Option<()> {
         count = patient.limit(NODES).checked_sub(there)?;
     }
     let first = patient.raw.cells.len() as u32;
-    let mut there: std::collections::HashSet<u32> =
-        patient.raw.cells[1..].iter().copied().collect();
-    while count > 0 {
-        let parent = patient.random.below(patient.raw.cells.len()) as u32;
-        let cell = 256 * parent + patient.random.below(256) as u32;
-        if there.insert(cell) {
-            patient.raw.cells.push(cell);
-            count -= 1;
-        }
-    }
+    add_nodes(patient, count);
     let last = patient.raw.cells.len() - 1;
     match patient.random.below(6) {
         0 => patient.raw.cells[last] = 256 * last as u32,
