@@ -10,13 +10,12 @@ use Rattle.mem_words.specs.declared.Word.{Word}
 use Rattle.mem_words.specs.Words.{words}
 use Rattle.mem_sorts.specs.declared.Kind.the-variants.{And, Cond, Commit}
 use Rattle.mem_numbers.specs.Numbers.{shorts}
-use Rattle.mem_parts.specs.Parts.{Outside, Zeroed, outside-wide, cut-left, cut-right}
+use Rattle.mem_parts.specs.Parts.{Outside, outside-wide, cut-left, cut-right}
 use Rattle.solve_quiet.specs.Solver.{Marking}
 use Rattle.work_tables.specs.Tables.{logOf, localsOf, Laid}
 use Rattle.work_marks.specs.Marks.{Mark}
 use Rattle.work_marks.proofs.Walking.{walk-beside}
 use Rattle.work_enter.specs.Enters.{At}
-use Rattle.work_judge.proofs.Locals.{locals-none}
 use Rattle.rule_words.specs.Scans.{close, around}
 use Rattle.rule_effects.specs.Effects.{behind}
 use Rattle.rule_effects.specs.Conditions.{kind-at, solved-at}
@@ -125,8 +124,15 @@ module _ (W : List Word) (g : ℕ) where
           answer : QuietIn W j j r
           answer = a .quiet g from d l (waits-and W g j waiting) stood-now none-marked
 
+          -- the walk is where it was, and nothing is marked
+          pub stood-asked : Stood W g from Y (j + 1) d k u m b
+          stood-asked = a .still g from d stood-now
+
+          pub unmarked-asked : Marking (localsOf Y) []
+          unmarked-asked = a .unmarked none-marked
+
           pub asks-box : r ≡ false → Asks W g from Y (j + 1) d k u m b h′
-          asks-box z = record { stood = a .still g from d stood-now; path = path-still (same-path (a .rest)) path-next; unmarked = a .unmarked none-marked; rest = rest-next j rl (λ w. subst (QuietIn W j j) z answer) }
+          asks-box z = record { stood = stood-asked; path = path-still (same-path (a .rest)) path-next; unmarked = unmarked-asked; rest = rest-next j rl (λ w. subst (QuietIn W j j) z answer) }
 
           pub rest-loud : r ≡ true → GuardsRest W g false
           rest-loud z = record { rest = λ y. absurd (false-true y); stir = λ y. inr (j, l, o, waiting, subst (QuietIn W j j) z answer) }
@@ -185,8 +191,5 @@ module _ (W : List Word) (g : ℕ) where
   rest-boxless false x y = record { rest = λ z. absurd (false-true z); stir = λ z. inl x }
 
 -- the walk begins, nothing marked
-pub nothing-marked : {L A : List ℕ} → Zeroed 335872 401408 L A → Marking (localsOf A) []
-nothing-marked {L} {A} z = locals-none L [] A z .marks
-
-pub asks-first : {W : List Word} {g n u a : ℕ} (A : List ℕ) {Y : List ℕ} → Stood W g n Y g 0 0 u n a → localsOf Y ≡ localsOf A → Marking (localsOf A) [] → Asks W g n Y g 0 0 u n a 0
-asks-first {W} {g} A {Y} s e m = record { stood = s; path = path-first W g Y (opened-first W g); unmarked = subst (λ (l : List ℕ). Marking l []) (sym e) m; rest = record { at = λ i p q w. absurd (omega arith) } }
+pub asks-first : {W : List Word} {g n u a : ℕ} {Y : List ℕ} → Stood W g n Y g 0 0 u n a → Marking (localsOf Y) [] → Asks W g n Y g 0 0 u n a 0
+asks-first {W} {g} {Y = Y} s m = record { stood = s; path = path-first W g Y (opened-first W g); unmarked = m; rest = record { at = λ i p q w. absurd (omega arith) } }

@@ -1,7 +1,8 @@
 // The solved guards of a goal tested in one walk over its words: is one quiet for which rule 6, 7 or 8 waits? The stores are told and taken
-// back as the boxes are entered and left.
+// back as the boxes are entered and left. The solver's tables are as they were afterwards; only where stores have no solution all cells
+// are made zero.
 ghost use Rattle.mem_words.specs.Words.{words};
-ghost use Rattle.work_tables.specs.Tables.{Laid};
+ghost use Rattle.rule_solve.specs.Idle.{Idle};
 ghost use Rattle.step_turn.specs.Stood.{CanWalk};
 ghost use Rattle.step_guards.specs.Guards.{GuardsRest, Operators, CanAskOwn, OwnAsked, Asks};
 use mem_sorts::Kind;
@@ -43,7 +44,7 @@ fn own_quiet(t: &[u8], w: &mut [u8], j: usize, k: usize, used: usize, n: usize, 
 // Goes over the words of the goal at `g`, whose environment was told up to the mark (`u`, `n`, `a`).
 fn walk(t: &[u8], w: &mut [u8], g: usize, u: usize, n: usize, a: usize) -> bool
     requires { ⌜ CanWalk (words (now t)) g × Asks (words (now t)) g n (now w) g 0 0 u n a 0 ⌝ }
-    ensures { λ r. ⌜ GuardsRest (words (now (t .entry))) g r × Laid (now (w .exit)) ⌝ }
+    ensures { λ r. ⌜ GuardsRest (words (now (t .entry))) g r × Idle (now (w .exit)) ⌝ }
 {
     let e = rule_close::end_of(t, g);
     let mut j = g;
@@ -56,6 +57,7 @@ fn walk(t: &[u8], w: &mut [u8], g: usize, u: usize, n: usize, a: usize) -> bool
     while j < e {
         let v = step_waits::waits(t, w, g, j, h);
         let Next::On(d1, k1, x1, y1, z1) = step_turn::turn(t, w, j, d, k, x, y, z) else {
+            mem_parts::zero(w, 16384, 212992);
             return false; // the box at j has no solution
         };
         h = step_path::pass(t, w, j, h);
@@ -68,26 +70,29 @@ fn walk(t: &[u8], w: &mut [u8], g: usize, u: usize, n: usize, a: usize) -> bool
         j += 1;
         if v {
             if own_quiet(t, w, i, k, x, y, z) {
+                work_ranges::back(w, y, 0);
                 return false; // the rule applies
             }
         }
     }
+    work_ranges::back(w, y, 0);
     true
 }
 
 // Whether no guard is quiet for which rule 6, 7 or 8 waits at a place inside the goal at `g`; or else an and-box of it is not calm.
 pub fn guards_rest(t: &[u8], w: &mut [u8], g: usize) -> bool
-    requires { ⌜ Laid (now w) × CanWalk (words (now t)) g ⌝ }
-    ensures { λ r. ⌜ GuardsRest (words (now (t .entry))) g r × Laid (now (w .exit)) ⌝ }
+    requires { ⌜ Idle (now w) × CanWalk (words (now t)) g ⌝ }
+    ensures { λ r. ⌜ GuardsRest (words (now (t .entry))) g r × Idle (now (w .exit)) ⌝ }
 {
     if unguarded(t, g) {
         return true; // there is none
     }
-    mem_parts::zero(w, 335872, 401408);
-    mem_parts::zero(w, 16384, 212992);
     let r = rule_tells::tell_from(t, w, 0, g, 0, 0, 0);
     match r {
         Around::All(u, n, a) => walk(t, w, g, u, n, a),
-        Around::Failed => step_walk::boxless(t, g), // no box has a solution with its environment
+        Around::Failed => {
+            mem_parts::zero(w, 16384, 212992);
+            step_walk::boxless(t, g) // no box has a solution with its environment
+        }
     }
 }

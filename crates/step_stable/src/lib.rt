@@ -46,10 +46,8 @@ pub fn stable(t: &[u8], d: &[u8], w: &mut [u8], g: usize) -> bool
     if places_rest(t, g) {
         if step_walk::calm(t, w, g) {
             let r = step_guards::guards_rest(t, w, g); // guards that must be quiet
-            rule_solve::ready(w);
             return r;
         }
-        rule_solve::ready(w);
         return false; // an and-box is not calm
     }
     false // another place

@@ -10,10 +10,10 @@ use Rattle.constraint.specs.Constraint.{Sats}
 use Rattle.constraint.proofs.Entail.{sats-append}
 use Rattle.mem_words.specs.declared.Word.{Word}
 use Rattle.mem_sorts.specs.declared.Kind.the-variants.{And}
-use Rattle.mem_parts.specs.Parts.{Zeroed, cut-right}
 use Rattle.solve_tells.proofs.Rooms.{drawn-none}
 use Rattle.solve_quiet.specs.Solver.{Marking}
 use Rattle.work_tables.specs.Tables.{logOf, localsOf, Laid, laid-after, length-log}
+use Rattle.work_marks.specs.Marks.{Walk}
 use Rattle.work_enter.specs.Enters.{At}
 use Rattle.rule_words.specs.Scans.{close}
 use Rattle.rule_effects.specs.Effects.{behind}
@@ -25,7 +25,8 @@ use Rattle.rule_tells.specs.declared.Around.{Around}
 use Rattle.rule_tells.specs.declared.Around.the-variants.{All, Failed}
 use Rattle.rule_tells.specs.Telling.{CanTellAll, Onward, AllOf, NoneOf, ToldAll}
 use Rattle.rule_tells.proofs.Adding.{told-more}
-use Rattle.rule_solve.proofs.Starts.{start-at, start-can, env-told, none-satisfied}
+use Rattle.rule_solve.proofs.Starts.{idle-at, idle-can, env-told, none-satisfied}
+use Rattle.rule_solve.proofs.Idling.{marks-kept}
 use Rattle.step_open.specs.Opened.{Opened}
 use Rattle.step_open.proofs.Chains.{opened-first, opened-at, chain-all}
 use Rattle.step_turn.specs.Boxes.{Told, Framed}
@@ -33,12 +34,12 @@ use Rattle.step_turn.specs.Stood.{CanWalk, Stood}
 use Rattle.step_walk.specs.Calm.{BoxesCalm, Boxed, Walks}
 use Rattle.step_walk.proofs.Answers.{goal-last}
 
-module _ (W : List Word) (A B : List ℕ) (g : ℕ) (h : Laid A) (c : CanWalk W g) (z : Zeroed 16384 212992 A B) where
+module _ (W : List Word) (B : List ℕ) (g : ℕ) (w : Walk B []) (c : CanWalk W g) where
   start : At B 0 0 0 []
-  start = start-at h z
+  start = idle-at w
 
   pub env-can : CanTellAll W B (ranges-from W 0 g) 0 0 0
-  env-can = start-can h z (c .roomy) (c .around) (from-drawn W (0 ∷ c .roomy .others) (c .roomy .drawn) 0 g)
+  env-can = idle-can w (c .roomy) (c .around) (from-drawn W (0 ∷ c .roomy .others) (c .roomy .drawn) 0 g)
 
   -- the walk begins
   module _ (Y : List ℕ) (u n a : ℕ) (r : Around) (er : r ≡ All u n a) (t : ToldAll W B (ranges-from W 0 g) 0 0 0 Y r) where
@@ -69,15 +70,10 @@ module _ (W : List Word) (A B : List ℕ) (g : ℕ) (h : Laid A) (c : CanWalk W 
       logged = λ us q. all-of .drawn (0 ∷ us) (drawn-none (logOf 0 B) (0 ∷ us) (inl refl) (length-log 0 (start .walk .laid) (record { most = omega arith }))) (from-drawn W (0 ∷ us) q 0 g);
     }
 
-    -- what is marked is as it was
-    pub same-locals : localsOf Y ≡ localsOf A
-    unfolding localsOf
-    same-locals = cut-right 335872 401408 (omega arith) (t .rest) ∙ cut-right 335872 401408 (omega arith) (z .rest)
-
-    pub walks-first : Marking (localsOf A) (locals-at W g) → Walks W g n Y g 0 0 u n a
+    pub walks-first : Marking (localsOf B) (locals-at W g) → Walks W g n Y g 0 0 u n a
     walks-first m = record {
       stood = stood-first;
-      locals = subst (λ (l : List ℕ). Marking l (locals-at W g)) (sym same-locals) m;
+      locals = marks-kept (locals-at W g) (t .rest) m;
       calm = record { at = λ i p q e. absurd (omega arith) };
     }
 

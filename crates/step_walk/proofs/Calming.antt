@@ -70,9 +70,16 @@ module _ (W : List Word) (g from : ℕ) (X : List ℕ) (j d k u m b : ℕ) (s : 
             (q .right (since (s .brackets)) (s .env) at-since (s .outer .trail) lab (locals-at W g) marking (subst (Fresh (locals-at W g)) (sym (s .outer .told lab)) fr) (env-solved lab));
       }
 
+      -- the walk is where it was
+      pub stood-asked : Stood W g from Y (j + 1) d k u m b
+      stood-asked = stood-still (q .still) (same-frames (outside-wide 0 335872 (omega arith) (omega arith) (q .rest))) (tried-log u (q .rest)) s
+
+      pub marks-asked : Marking (localsOf Y) (locals-at W g)
+      marks-asked = subst (λ (l : List ℕ). Marking l (locals-at W g)) (sym (tried-locals (q .rest))) marking
+
       pub walks-box : r ≡ true → Walks W g from Y (j + 1) d k u m b
       walks-box z = record {
-        stood = stood-still (q .still) (same-frames (outside-wide 0 335872 (omega arith) (omega arith) (q .rest))) (tried-log u (q .rest)) s;
-        locals = subst (λ (l : List ℕ). Marking l (locals-at W g)) (sym (tried-locals (q .rest))) marking;
+        stood = stood-asked;
+        locals = marks-asked;
         calm = calm-next W g j cl (λ h. (stood-sat s, subst (QuietIn W g j) z box-quiet));
       }

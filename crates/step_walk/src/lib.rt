@@ -1,6 +1,12 @@
-// The and-boxes of a goal tested in one walk over its words: their stores are told and taken back as the boxes are entered and left.
+// The and-boxes of a goal tested in one walk over its words: their stores are told and taken back as the boxes are entered and left. The
+// solver's tables are as they were afterwards; only where stores have no solution all cells are made zero.
+ghost use mathlib.Core.List.{[]};
 ghost use Rattle.mem_words.specs.Words.{words};
-ghost use Rattle.work_tables.specs.Tables.{Laid};
+ghost use Rattle.solve_quiet.specs.Solver.{Marking};
+ghost use Rattle.work_tables.specs.Tables.{localsOf};
+ghost use Rattle.work_marks.specs.Marks.{Walk};
+ghost use Rattle.rule_ranges.specs.Ranges.{locals-at};
+ghost use Rattle.rule_solve.specs.Idle.{Idle};
 ghost use Rattle.step_turn.specs.Stood.{CanWalk};
 ghost use Rattle.step_walk.specs.Calm.{Boxed, BoxesCalm, Walks};
 use mem_sorts::Kind;
@@ -25,7 +31,7 @@ pub fn boxless(t: &[u8], g: usize) -> bool
 // Goes over the words of the goal at `g`, whose environment was told up to the mark (`u`, `n`, `a`).
 fn walk(t: &[u8], w: &mut [u8], g: usize, u: usize, n: usize, a: usize) -> bool
     requires { ⌜ CanWalk (words (now t)) g × Walks (words (now t)) g n (now w) g 0 0 u n a ⌝ }
-    ensures { λ r. ⌜ BoxesCalm (words (now (t .entry))) g r × Laid (now (w .exit)) ⌝ }
+    ensures { λ r. ⌜ BoxesCalm (words (now (t .entry))) g r × Walk (now (w .exit)) [] × Marking (localsOf (now (w .exit))) (locals-at (words (now (t .entry))) g) ⌝ }
 {
     let e = rule_close::end_of(t, g);
     let mut j = g;
@@ -36,6 +42,7 @@ fn walk(t: &[u8], w: &mut [u8], g: usize, u: usize, n: usize, a: usize) -> bool
     let mut z = a;
     while j < e {
         let Next::On(d1, k1, x1, y1, z1) = step_turn::turn(t, w, j, d, k, x, y, z) else {
+            mem_parts::zero(w, 16384, 212992);
             return false; // the box at j has no solution
         };
         let i = j;
@@ -47,24 +54,38 @@ fn walk(t: &[u8], w: &mut [u8], g: usize, u: usize, n: usize, a: usize) -> bool
         j += 1;
         if rule_shapes::is_kind(t, i, Kind::And) {
             if !step_quiet::silent(w, x, y, z, n) {
+                work_ranges::back(w, y, 0);
                 return false; // it is not quiet
             }
         }
     }
+    work_ranges::back(w, y, 0);
     true
+}
+
+// As `calm`, with the locals inside the goal marked.
+fn calm_marked(t: &[u8], w: &mut [u8], g: usize) -> bool
+    requires { ⌜ Walk (now w) [] × Marking (localsOf (now w)) (locals-at (words (now t)) g) × CanWalk (words (now t)) g ⌝ }
+    ensures { λ r. ⌜ BoxesCalm (words (now (t .entry))) g r × Walk (now (w .exit)) [] × Marking (localsOf (now (w .exit))) (locals-at (words (now (t .entry))) g) ⌝ }
+{
+    let r = rule_tells::tell_from(t, w, 0, g, 0, 0, 0);
+    match r {
+        Around::All(u, n, a) => walk(t, w, g, u, n, a),
+        Around::Failed => {
+            mem_parts::zero(w, 16384, 212992);
+            boxless(t, g) // no box has a solution with its environment
+        }
+    }
 }
 
 // Whether every and-box at or inside the goal at `g` has a solution with its environment, and the stores from the goal down to it are
 // quiet for the goal's environment.
 pub fn calm(t: &[u8], w: &mut [u8], g: usize) -> bool
-    requires { ⌜ Laid (now w) × CanWalk (words (now t)) g ⌝ }
-    ensures { λ r. ⌜ BoxesCalm (words (now (t .entry))) g r × Laid (now (w .exit)) ⌝ }
+    requires { ⌜ Idle (now w) × CanWalk (words (now t)) g ⌝ }
+    ensures { λ r. ⌜ BoxesCalm (words (now (t .entry))) g r × Idle (now (w .exit)) ⌝ }
 {
-    rule_locals::mark_inside(t, w, g);
-    mem_parts::zero(w, 16384, 212992);
-    let r = rule_tells::tell_from(t, w, 0, g, 0, 0, 0);
-    match r {
-        Around::All(u, n, a) => walk(t, w, g, u, n, a),
-        Around::Failed => boxless(t, g), // no box has a solution with its environment
-    }
+    rule_locals::give_inside(t, w, g, 1);
+    let r = calm_marked(t, w, g);
+    rule_locals::give_inside(t, w, g, 0);
+    r
 }

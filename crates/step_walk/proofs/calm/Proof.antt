@@ -1,46 +1,28 @@
--- The locals, the environment, the walk. Assumes nothing.
+-- The locals are marked, and unmarked. Assumes nothing.
 use mathlib.Core.Path.{_∙_}
+use mathlib.Core.List.{[]}
 use native.Mathlib.Omega.{arith}
 use Rattle.mem_words.specs.Words.{words}
-use Rattle.work_tables.specs.Tables.{laid-after}
-use Rattle.step_walk.proofs.Answers.{goal-first}
-use Rattle.step_walk.proofs.Beginning.{env-can, walks-first, env-none}
+use Rattle.work_marks.proofs.Walking.{walk-beside}
+use Rattle.rule_locals.proofs.Givings.{marked-now, unmarked-now}
 use borrow.Author.Needs.{needs}
 use Rattle.step_walk.proofs.calm.Statement.{statement}
 use Rattle.step_walk.proofs.calm.Tie as tie
 
-mark-inside-requires : tie.Need-mark-inside-requires
-mark-inside-requires c κs = (c .before .before .before .pre .0, c .before .before .before .pre .1 .roomy .vars)
+give-inside-requires : tie.Need-give-inside-requires
+give-inside-requires c κs = (c .before .before .before .pre .0 .walk .laid, c .before .before .before .pre .1 .roomy .vars, omega arith)
 
-zero-requires : tie.Need-zero-requires
-zero-requires c κs = record { le = omega arith; fits = omega (arith, c .before .before .before .before .before .before .before .pre .0 .long, c .before .before .before .mark-inside .ensures .rest .long) }
+calm-marked-requires : tie.Need-calm-marked-requires
+calm-marked-requires c κs = (walk-beside [] _ _ 401408 (c .before .before .before .before .before .before .before .pre .0 .walk) (c .before .before .before .give-inside .ensures .rest), marked-now (c .before .before .before .give-inside .ensures) (c .before .before .before .before .before .before .before .pre .0 .unmarked), c .before .before .before .before .before .before .before .pre .1)
 
-tell-from-requires : tie.Need-tell-from-requires
-tell-from-requires c κs = (omega (arith, goal-first (words (c .before .before .before .before .before .before .before .before .before .before .before .args .t .now)) (c .before .before .before .before .before .before .before .before .before .before .before .args .g) (c .before .before .before .before .before .before .before .before .before .before .before .pre .1), c .before .before .before .before .before .before .before .before .before .before .before .pre .1 .whole), env-can (words (c .before .before .before .before .before .before .before .before .before .before .before .args .t .now)) _ _ (c .before .before .before .before .before .before .before .before .before .before .before .args .g) (laid-after (c .before .before .before .before .before .before .before .before .before .before .before .pre .0) (c .before .before .before .before .before .before .before .mark-inside .ensures .rest)) (c .before .before .before .before .before .before .before .before .before .before .before .pre .1) (c .before .before .before .zero .ensures))
-
-enum-known-r : tie.Need-enum-known-r
-enum-known-r c = search needs
-
-walk-requires : tie.Need-walk-requires
-walk-requires c κs = (c .before .before .before .before .before .before .before .before .before .before .before .before .before .before .before .before .before .before .pre .1, walks-first (words (c .before .before .before .before .before .before .before .before .before .before .before .before .before .before .before .before .before .before .args .t .now)) _ _ (c .before .before .before .before .before .before .before .before .before .before .before .before .before .before .before .before .before .before .args .g) (laid-after (c .before .before .before .before .before .before .before .before .before .before .before .before .before .before .before .before .before .before .pre .0) (c .before .before .before .before .before .before .before .before .before .before .before .before .before .before .mark-inside .ensures .rest)) (c .before .before .before .before .before .before .before .before .before .before .before .before .before .before .before .before .before .before .pre .1) (c .before .before .before .before .before .before .before .before .before .before .zero .ensures) _ _ _ _ (c .before .before .before .before .before .before .tell-from .result) (c .before .before .r .given .1) (c .before .before .before .before .before .before .tell-from .ensures) (c .before .before .before .before .before .before .before .before .before .before .before .before .before .before .mark-inside .ensures .marks))
-
-enum-told : tie.Need-enum-told
-enum-told c = search needs
-
-boxless-requires : tie.Need-boxless-requires
-boxless-requires c κs = search needs
+give-inside-requires-2 : tie.Need-give-inside-requires-2
+give-inside-requires-2 c κs = (c .before .before .before .calm-marked .ensures .1 .laid, c .before .before .before .before .before .before .before .before .before .before .before .pre .1 .roomy .vars, omega arith)
 
 same-length : tie.Need-same-length
-same-length c = c .before .before .walk .kept .1 .0 ∙ c .before .before .before .before .before .before .before .before .before .tell-from .kept .1 .0 ∙ c .before .before .before .before .before .before .before .before .before .before .before .before .before .zero .kept .0 ∙ c .before .before .before .before .before .before .before .before .before .before .before .before .before .before .before .before .before .mark-inside .kept .1 .0
+same-length c = c .before .before .give-inside2 .kept .1 .0 ∙ c .before .before .before .before .before .before .calm-marked .kept .1 .0 ∙ c .before .before .before .before .before .before .before .before .before .before .give-inside .kept .1 .0
 
 returns : tie.Need-returns
-returns c = c .before .before .walk .ensures
-
-same-length-2 : tie.Need-same-length-2
-same-length-2 c = c .before .before .before .before .before .tell-from .kept .1 .0 ∙ c .before .before .before .before .before .before .before .before .before .zero .kept .0 ∙ c .before .before .before .before .before .before .before .before .before .before .before .before .before .mark-inside .kept .1 .0
-
-returns-2 : tie.Need-returns-2
-returns-2 c = env-none (words (c .before .before .before .before .before .before .before .before .before .before .before .before .before .before .before .before .before .args .t .now)) _ _ (c .before .before .before .before .before .before .before .before .before .before .before .before .before .before .before .before .before .args .g) (laid-after (c .before .before .before .before .before .before .before .before .before .before .before .before .before .before .before .before .before .pre .0) (c .before .before .before .before .before .before .before .before .before .before .before .before .before .mark-inside .ensures .rest)) (c .before .before .before .before .before .before .before .before .before .before .before .before .before .before .before .before .before .pre .1) (c .before .before .before .before .before .before .before .before .before .zero .ensures) _ (c .before .before .before .before .before .tell-from .result) (c .boxless .result) (c .before .enum-told .given .1) (c .before .before .before .before .before .tell-from .ensures) (c .boxless .ensures)
+returns c = (c .before .before .before .before .before .before .calm-marked .ensures .0, record { walk = walk-beside [] _ _ 401408 (c .before .before .before .before .before .before .calm-marked .ensures .1) (c .before .before .give-inside2 .ensures .rest); unmarked = unmarked-now (c .before .before .give-inside2 .ensures) (c .before .before .before .before .before .before .calm-marked .ensures .2) })
 
 pub calm-spec : {M : Type 1} → statement M
-calm-spec = tie.close (tie.spec mark-inside-requires zero-requires tell-from-requires enum-known-r walk-requires enum-told boxless-requires same-length returns same-length-2 returns-2)
+calm-spec = tie.close (tie.spec give-inside-requires calm-marked-requires give-inside-requires-2 same-length returns)
