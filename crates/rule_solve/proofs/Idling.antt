@@ -7,8 +7,9 @@ use native.Mathlib.Omega.{arith}
 use Rattle.mem_words.specs.declared.Word.{Word}
 use Rattle.mem_parts.specs.Parts.{Outside, outside-then, outside-wide, cut-left, cut-right, Zeroed}
 use Rattle.solve_quiet.specs.Solver.{Marking}
+use Rattle.solve_classes.specs.Means.{OldVars}
 use Rattle.solve_tells.specs.Tells.{CanBack}
-use Rattle.work_tables.specs.Tables.{cellsOf, varsOf, oldsOf, localsOf, Laid, laid-after}
+use Rattle.work_tables.specs.Tables.{cellsOf, varsOf, oldsOf, localsOf, Laid}
 use Rattle.work_ranges.specs.Backs.{BackIn}
 use Rattle.work_marks.specs.Marks.{Mark, trailAt, Walk, Returns}
 use Rattle.work_marks.proofs.Walking.{walk-returns, returns-can-back, walk-back, walk-beside}
@@ -51,8 +52,10 @@ idle-beside {a} {e} {L} {X} h g o i =
 pub at-returns : (ms : List Mark) (X : List ℕ) (u n a : ℕ) → At X u n a ms → Returns X n []
 at-returns ms X u n a p = subst (λ (k : ℕ). Returns X k []) (ap trailAt (append-nil ms) ∙ p .isTrail) (walk-returns ms [] X (subst (Walk X) (sym (append-nil ms)) (p .walk)))
 
-pub can-return : {X : List ℕ} {n : ℕ} → Returns X n [] → Laid X × CanBack (cellsOf X) (varsOf X) (oldsOf X) n 0
-can-return {X} {n} r = (r .laid, returns-can-back [] X n r)
+-- `back` may then be called with any lengths up to that of the trail
+pub can-return : {X : List ℕ} {n : ℕ} → Returns X n [] → (m k : ℕ) → k ≤ m → m ≤ n → Laid X × CanBack (cellsOf X) (varsOf X) (oldsOf X) m k
+unfolding OldVars
+can-return {X} {n} r m k h l = let c = returns-can-back [] X n r in (r .laid, record { le = h; fitX = omega (arith, c .fitX); fitC = omega (arith, c .fitC); vars = λ t a b. c .vars t (omega arith) (omega arith) })
 
 -- the stores around the and-box at j were told on tables A that were idle
 module _ (W : List Word) (A X : List ℕ) (j : ℕ) (i : Idle A) where
@@ -74,11 +77,15 @@ module _ (W : List Word) (A X : List ℕ) (j : ℕ) (i : Idle A) where
         let q = told-idle r t (walk-back [] X Y n told-returns b) (outside-wide 0 335872 (omega arith) (omega arith) (b .rest)) in
         (record { right = λ lab d. env-satisfied lab W (ranges-from W 0 (j + 1)) X u n a (all-of .on [] (idle-at (i .walk))) }, q .0, q .1)
 
-  pub told-laid : (r : Around) → ToldAll W A (ranges-from W 0 (j + 1)) 0 0 0 X r → Laid X
-  told-laid r t = laid-after (i .walk .laid) (t .rest)
+  module _ (k : ℕ) (r : Around) (e : r ≡ Failed k) (t : ToldAll W A (ranges-from W 0 (j + 1)) 0 0 0 X r) where
+    none-of : NoneOf W A (ranges-from W 0 (j + 1)) 0 0 0 X k
+    none-of = subst (ToldAll W A (ranges-from W 0 (j + 1)) 0 0 0 X) e t .answer
 
-  pub sat-no : (r : Around) → r ≡ Failed → ToldAll W A (ranges-from W 0 (j + 1)) 0 0 0 X r → (Y : List ℕ) → Zeroed 16384 212992 X Y → SatIn W j false × Idle Y × Outside 0 401408 A Y
-  sat-no r e t Y z =
-      let p : NoneOf W A (ranges-from W 0 (j + 1)) 0 0 0 = subst (ToldAll W A (ranges-from W 0 (j + 1)) 0 0 0 X) e t .answer in
-      let q = told-idle r t (start-at (told-laid r t) z .walk) (outside-wide 0 335872 (omega arith) (omega arith) (z .rest)) in
-      (record { right = λ lab d s. p .none [] (idle-at (i .walk)) lab d s }, q .0, q .1)
+    pub none-returns : Returns X k []
+    none-returns = none-of .returns [] (idle-at (i .walk))
+
+    -- they have no solution
+    pub sat-no : (Y : List ℕ) → BackIn X k 0 Y → SatIn W j false × Idle Y × Outside 0 401408 A Y
+    sat-no Y b =
+        let q = told-idle r t (walk-back [] X Y k none-returns b) (outside-wide 0 335872 (omega arith) (omega arith) (b .rest)) in
+        (record { right = λ lab d s. none-of .none [] (idle-at (i .walk)) lab d s }, q .0, q .1)

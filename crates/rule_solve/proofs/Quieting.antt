@@ -6,11 +6,11 @@ use Prim.Native.Nat.{ℕ, _+_, _≤_, _<_}
 use native.Mathlib.Omega.{arith}
 use lib.ListN.{length}
 use Rattle.mem_words.specs.declared.Word.{Word}
-use Rattle.mem_parts.specs.Parts.{Outside, outside-then, outside-wide, Zeroed}
+use Rattle.mem_parts.specs.Parts.{Outside, outside-then, outside-wide}
 use Rattle.solve_quiet.specs.Solver.{Marking, CanCalm, Calmed, Kept}
 use Rattle.solve_quiet.specs.declared.Calm.{Calm}
 use Rattle.solve_quiet.specs.declared.Calm.the-variants.{Silent, Loudly, NoSpace}
-use Rattle.work_tables.specs.Tables.{cellsOf, varsOf, oldsOf, posOf, logOf, marksOf, stackOf, donesOf, localsOf, Laid, Logged, Tried, laid-after}
+use Rattle.work_tables.specs.Tables.{cellsOf, varsOf, oldsOf, posOf, logOf, marksOf, stackOf, donesOf, localsOf, Laid, Logged, Tried}
 use Rattle.work_ranges.specs.Backs.{BackIn}
 use Rattle.work_marks.specs.Marks.{Walk, Returns}
 use Rattle.work_marks.proofs.Walking.{walk-back, walk-beside}
@@ -24,9 +24,9 @@ use Rattle.rule_tells.specs.declared.Around.{Around}
 use Rattle.rule_tells.specs.declared.Around.the-variants.{All, Failed}
 use Rattle.rule_tells.specs.Telling.{CanTellAll, AllOf, NoneOf, ToldAll}
 use Rattle.rule_solve.specs.Idle.{Idle, CanQuiet}
-use Rattle.rule_solve.proofs.Starts.{idle-at, start-at, idle-can}
+use Rattle.rule_solve.proofs.Starts.{idle-at, idle-can}
 use Rattle.rule_solve.proofs.Idling.{marks-kept}
-use Rattle.rule_solve.proofs.Silence.{env-can, inner-can, inner-none, can-quiet, inner-silent, inner-loud, inner-room, inner-returns}
+use Rattle.rule_solve.proofs.Silence.{env-can, inner-can, inner-none, none-returns, can-quiet, inner-silent, inner-loud, inner-room, inner-returns}
 
 -- the verdict; nothing is told afterwards, and the marks are as they were
 abbrev pub Said : List Word → List ℕ → ℕ → ℕ → Bool → List ℕ → Type 0
@@ -46,17 +46,19 @@ module _ (W : List Word) (B : List ℕ) (g j : ℕ) (c : CanQuiet W B g j) where
   pub goal-can : CanTellAll W B (ranges-from W 0 g) 0 0 0
   goal-can = env-can W B (ranges-from W 0 g) (ranges-from W g (j + 1)) all-can start
 
-  wide : {X Y : List ℕ} → Zeroed 16384 212992 X Y → Outside 0 335872 X Y
-  wide z = outside-wide 0 335872 (omega arith) (omega arith) (z .rest)
-
-  pub goal-laid : (Y : List ℕ) (r : Around) → ToldAll W B (ranges-from W 0 g) 0 0 0 Y r → Laid Y
-  goal-laid Y r t = laid-after (c .walk .laid) (t .rest)
+  wide : {X Y : List ℕ} {m n : ℕ} → BackIn X m n Y → Outside 0 335872 X Y
+  wide b = outside-wide 0 335872 (omega arith) (omega arith) (b .rest)
 
   -- nothing satisfies the environment
-  pub goal-hopeless : (Y Z : List ℕ) (r : Around) → r ≡ Failed → ToldAll W B (ranges-from W 0 g) 0 0 0 Y r → Zeroed 16384 212992 Y Z → Said W B g j true Z
-  goal-hopeless Y Z r e t z =
-      let p : NoneOf W B (ranges-from W 0 g) 0 0 0 = subst (ToldAll W B (ranges-from W 0 g) 0 0 0 Y) e t .answer in
-      (record { right = λ lab d fr ρ s. absurd (p .none [] start lab d (ρ, s)) }, start-at (goal-laid Y r t) z .walk, outside-then (t .rest) (wide z))
+  module _ (Y : List ℕ) (k : ℕ) (r : Around) (e : r ≡ Failed k) (t : ToldAll W B (ranges-from W 0 g) 0 0 0 Y r) where
+    goal-none : NoneOf W B (ranges-from W 0 g) 0 0 0 Y k
+    goal-none = subst (ToldAll W B (ranges-from W 0 g) 0 0 0 Y) e t .answer
+
+    pub goal-returns : Returns Y k []
+    goal-returns = goal-none .returns [] start
+
+    pub goal-hopeless : (Z : List ℕ) → BackIn Y k 0 Z → Said W B g j true Z
+    goal-hopeless Z b = (record { right = λ lab d fr ρ s. absurd (goal-none .none [] start lab d (ρ, s)) }, walk-back [] Y Z k goal-returns b, outside-then (t .rest) (wide b))
 
   module _ (Y : List ℕ) (u n a : ℕ) (r : Around) (er : r ≡ All u n a) (t : ToldAll W B (ranges-from W 0 g) 0 0 0 Y r) where
     outer : AllOf W B (ranges-from W 0 g) 0 0 0 Y u n a
@@ -65,14 +67,16 @@ module _ (W : List Word) (B : List ℕ) (g j : ℕ) (c : CanQuiet W B g j) where
     pub stores-can : CanTellAll W Y (ranges-from W g (j + 1)) u n a
     stores-can = inner-can W B (ranges-from W 0 g) (ranges-from W g (j + 1)) all-can start Y u n a outer
 
-    pub stores-laid : (Z : List ℕ) (k : Around) → ToldAll W Y (ranges-from W g (j + 1)) u n a Z k → Laid Z
-    stores-laid Z k v = laid-after (goal-laid Y r t) (v .rest)
-
     -- the stores have no solution with it
-    pub stores-hopeless : (Z X : List ℕ) (k : Around) → k ≡ Failed → ToldAll W Y (ranges-from W g (j + 1)) u n a Z k → Zeroed 16384 212992 Z X → Said W B g j false X
-    stores-hopeless Z X k e v z =
-        let p : NoneOf W Y (ranges-from W g (j + 1)) u n a = subst (ToldAll W Y (ranges-from W g (j + 1)) u n a Z) e v .answer in
-        (record { right = λ lab d fr. inner-none W B (ranges-from W 0 g) (ranges-from W g (j + 1)) all-can start Y u n a outer (locals-at W g) p lab d fr }, start-at (stores-laid Z k v) z .walk, outside-then (t .rest) (outside-then (v .rest) (wide z)))
+    module _ (Z : List ℕ) (m : ℕ) (k : Around) (e : k ≡ Failed m) (v : ToldAll W Y (ranges-from W g (j + 1)) u n a Z k) where
+      stores-none : NoneOf W Y (ranges-from W g (j + 1)) u n a Z m
+      stores-none = subst (ToldAll W Y (ranges-from W g (j + 1)) u n a Z) e v .answer
+
+      pub stores-returns : Returns Z m []
+      stores-returns = none-returns W B (ranges-from W 0 g) (ranges-from W g (j + 1)) all-can start Y u n a outer Z m stores-none
+
+      pub stores-hopeless : (X : List ℕ) → BackIn Z m 0 X → Said W B g j false X
+      stores-hopeless X b = (record { right = λ lab d fr. inner-none W B (ranges-from W 0 g) (ranges-from W g (j + 1)) all-can start Y u n a outer (locals-at W g) Z m stores-none lab d fr }, walk-back [] Z X m stores-returns b, outside-then (t .rest) (outside-then (v .rest) (wide b)))
 
     module _ (Z : List ℕ) (v m b : ℕ) (k : Around) (ek : k ≡ All v m b) (y : ToldAll W Y (ranges-from W g (j + 1)) u n a Z k) where
       inner : AllOf W Y (ranges-from W g (j + 1)) u n a Z v m b

@@ -12,7 +12,7 @@ use Rattle.solve_quiet.specs.declared.Calm.{Calm}
 use Rattle.solve_quiet.specs.declared.Calm.the-variants.{Silent, Loudly, NoSpace}
 use Rattle.work_tables.specs.Tables.{cellsOf, varsOf, oldsOf, posOf, logOf, marksOf, stackOf, donesOf, localsOf, Laid, Logged, Tried}
 use Rattle.work_marks.specs.Marks.{Mark, trailAt, appsAt, usedAt, allTold, Returns}
-use Rattle.work_marks.proofs.Walking.{walk-kept}
+use Rattle.work_marks.proofs.Walking.{walk-kept, returns-below}
 use Rattle.work_marks.proofs.Verdicts.{walk-can-calm, walk-silent, walk-loud, none-loud}
 use Rattle.work_marks.proofs.Rooms.{quiet-never}
 use Rattle.work_enter.specs.Enters.{At}
@@ -50,8 +50,12 @@ module _ (W : List Word) (B : List ℕ) (es qs : List Range) (c : CanTellAll W B
     outer-satisfied lab = env-satisfied lab W es Y u n a outer
 
     -- what has no solution with it is not quiet
-    pub inner-none : (vs : List ℕ) → NoneOf W Y qs u n a → (lab : ℕ → Label) → Distinct lab → Fresh vs (told-all lab W es) → Quiet vs (told-all lab W es) (told-all lab W qs) → ⊥
-    inner-none vs q lab d fr = none-loud vs (told-all lab W es) (told-all lab W qs) fr (outer-satisfied lab) (λ s. q .none before outer-at lab d (subst (λ (σ : Store). Satisfiable (σ ++ told-all lab W qs)) (sym (outer-told lab)) s))
+    pub inner-none : (vs : List ℕ) (Z : List ℕ) (k : ℕ) → NoneOf W Y qs u n a Z k → (lab : ℕ → Label) → Distinct lab → Fresh vs (told-all lab W es) → Quiet vs (told-all lab W es) (told-all lab W qs) → ⊥
+    inner-none vs Z k q lab d fr = none-loud vs (told-all lab W es) (told-all lab W qs) fr (outer-satisfied lab) (λ s. q .none before outer-at lab d (subst (λ (σ : Store). Satisfiable (σ ++ told-all lab W qs)) (sym (outer-told lab)) s))
+
+    -- it and the environment can be taken back
+    pub none-returns : (Z : List ℕ) (k : ℕ) → NoneOf W Y qs u n a Z k → Returns Z k []
+    none-returns Z k q = returns-below (outer .news) [] Z k (q .returns (outer .news ++ []) (outer .at))
 
     -- the stores inside were told
     module _ (Z : List ℕ) (v m b : ℕ) (q : AllOf W Y qs u n a Z v m b) where

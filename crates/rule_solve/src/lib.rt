@@ -1,5 +1,5 @@
-// The solver asked of the stores around a position of a configuration. Between two questions nothing is told and no variable is marked,
-// so that a question costs what it tells and not what the tables hold; but where the stores have no solution all cells are made zero.
+// The solver asked of the stores around a position of a configuration. Between two questions nothing is told and no variable is marked:
+// a question takes back what it told, and costs that and not what the tables hold.
 ghost use mathlib.Core.List.{[], _++_};
 ghost use Prim.Native.Nat.{_+_, _<_, _≤_};
 ghost use lib.ListN.{length};
@@ -33,8 +33,8 @@ pub fn sat_at(t: &[u8], w: &mut [u8], j: usize) -> bool
             work_ranges::back(w, n, 0);
             true
         }
-        Around::Failed => {
-            mem_parts::zero(w, 16384, 212992);
+        Around::Failed(k) => {
+            work_ranges::back(w, k, 0); // as far as they were told
             false // they have none
         }
     }
@@ -59,14 +59,14 @@ fn quiet_marked(t: &[u8], w: &mut [u8], g: usize, j: usize) -> bool
                         Calm::NoSpace => false,
                     }
                 }
-                Around::Failed => {
-                    mem_parts::zero(w, 16384, 212992);
+                Around::Failed(k) => {
+                    work_ranges::back(w, k, 0); // with the environment
                     false // the environment has a solution
                 }
             }
         }
-        Around::Failed => {
-            mem_parts::zero(w, 16384, 212992);
+        Around::Failed(k) => {
+            work_ranges::back(w, k, 0); // as far as it was told
             true // nothing satisfies the environment
         }
     }

@@ -9,6 +9,7 @@ use Rattle.constraint.proofs.Entail.{sats-append}
 use Rattle.mem_words.specs.declared.Word.{Word}
 use Rattle.work_marks.specs.Marks.{Mark, allTold, rangeTold}
 use Rattle.work_marks.proofs.Standing.{all-since}
+use Rattle.work_marks.proofs.Walking.{returns-below}
 use Rattle.work_enter.specs.Enters.{At}
 use Rattle.rule_ranges.specs.Ranges.{Range, told-all, log-words, apps-all}
 use Rattle.rule_ranges.specs.Asked.{Within}
@@ -70,8 +71,9 @@ module _ (W : List Word) (L X : List ℕ) (rs qs : List Range) (used n a u m b :
   }
 
   -- or failed
-  pub none-then : NoneOf W X qs u m b → NoneOf W L (rs ++ qs) used n a
-  none-then q = record {
+  pub none-then : (Y : List ℕ) (k : ℕ) → NoneOf W X qs u m b Y k → NoneOf W L (rs ++ qs) used n a Y k
+  none-then Y k q = record {
+    returns = λ ms h. let A = p .on ms h in returns-below (A .news) ms Y k (q .returns (A .news ++ ms) (A .at));
     none = λ ms h lab d s.
         let A = p .on ms h in
         let e : allTold lab ms ++ told-all lab W (rs ++ qs) ≡ allTold lab (A .news ++ ms) ++ told-all lab W qs =
@@ -82,8 +84,9 @@ module _ (W : List Word) (L X : List ℕ) (rs qs : List Range) (used n a u m b :
   }
 
 -- where the first have no solution all have none
-pub none-more : (W : List Word) (L : List ℕ) (rs qs : List Range) (used n a : ℕ) → NoneOf W L rs used n a → NoneOf W L (rs ++ qs) used n a
-none-more W L rs qs used n a p = record {
+pub none-more : (W : List Word) (L : List ℕ) (rs qs : List Range) (used n a : ℕ) (X : List ℕ) (m : ℕ) → NoneOf W L rs used n a X m → NoneOf W L (rs ++ qs) used n a X m
+none-more W L rs qs used n a X m p = record {
+  returns = p .returns;
   none = λ ms h lab d s.
       let e : allTold lab ms ++ told-all lab W (rs ++ qs) ≡ (allTold lab ms ++ told-all lab W rs) ++ told-all lab W qs =
       ap (λ (σ : Store). allTold lab ms ++ σ) (told-more lab W rs qs) ∙ sym (append-assoc (allTold lab ms) (told-all lab W rs) (told-all lab W qs)) in

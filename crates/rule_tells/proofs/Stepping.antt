@@ -67,8 +67,8 @@ module _ (W : List Word) (L X : List ℕ) (used n a from len : ℕ) (r : Range) 
     drawn = λ vs d w. subst (λ (k : ℕ). Drawn (logOf k X) vs) (sym eu) (subst (λ (l : List Word). Drawn l vs) (sym (p .entered .log)) (drawn-append (logOf used L) (run from len W ++ stop) vs d (drawn-one vs w)));
   }
 
-  pub one-none : (m b : ℕ) → Counted W L used n a from len X (told.Failed m b) → NoneOf W L (r ∷ []) used n a
-  one-none m b p = record { none = λ ms h lab d s. p .entered .answer .none ms h lab d (subst (λ (σ : Store). Satisfiable (allTold lab ms ++ σ)) (told-one lab) s) }
+  pub one-none : (m b : ℕ) → Counted W L used n a from len X (told.Failed m b) → NoneOf W L (r ∷ []) used n a X m
+  one-none m b p = record { returns = p .entered .answer .returns; none = λ ms h lab d s. p .entered .answer .none ms h lab d (subst (λ (σ : Store). Satisfiable (allTold lab ms ++ σ)) (told-one lab) s) }
 
   pub one-room : (m b : ℕ) → CanTellAll W L (r ∷ []) used n a → Counted W L used n a from len X (told.NoRoom m b) → ⊥
   one-room m b c p = p .entered .answer .why (0 ∷ c .others) (drawn-append (logOf used L) (run from len W ++ stop) (0 ∷ c .others) (c .logged) (drawn-one (0 ∷ c .others) (c .drawn))) (omega (arith, c .trail)) (omega (arith, c .apps, apps-one))
@@ -109,14 +109,14 @@ module _ (W : List Word) (L : List ℕ) (o used n a u e : ℕ) (k : Bool) (ek : 
       rest = p .entered .rest;
     }
 
-    pub box-none : t ≡ told.Failed m b → Counted W L used n a (u + 2) (e - (u + 2)) X t → ToldAll W L (and-its W o []) used n a X Failed
+    pub box-none : t ≡ told.Failed m b → Counted W L used n a (u + 2) (e - (u + 2)) X t → ToldAll W L (and-its W o []) used n a X (Failed m)
     box-none et p = record {
-      answer = subst (λ (rs : List Range). NoneOf W L rs used n a) (sym its) (one-none W L X used n a (u + 2) (e - (u + 2)) (store-range W o) first size m b (subst (Counted W L used n a (u + 2) (e - (u + 2)) X) et p));
+      answer = subst (λ (rs : List Range). NoneOf W L rs used n a X m) (sym its) (one-none W L X used n a (u + 2) (e - (u + 2)) (store-range W o) first size m b (subst (Counted W L used n a (u + 2) (e - (u + 2)) X) et p));
       rest = p .entered .rest;
     }
 
     -- there is room for it
-    pub box-room : t ≡ told.NoRoom m b → Counted W L used n a (u + 2) (e - (u + 2)) X t → ToldAll W L (and-its W o []) used n a X Failed
+    pub box-room : t ≡ told.NoRoom m b → Counted W L used n a (u + 2) (e - (u + 2)) X t → ToldAll W L (and-its W o []) used n a X (Failed m)
     box-room et p = absurd (one-room W L X used n a (u + 2) (e - (u + 2)) (store-range W o) first size m b can (subst (Counted W L used n a (u + 2) (e - (u + 2)) X) et p))
 
 -- outwards from i: at the beginning
@@ -150,8 +150,8 @@ module _ (W : List Word) (L X : List ℕ) (s i used n a j u m b : ℕ) (p : Part
       rest = outside-then (p .rest) (t .rest);
     }
 
-    pub partly-none : (Y : List ℕ) (r : Around) → r ≡ Failed → ToldAll W X (and-its W o []) u m b Y r → ToldAll W L (ranges-from W s i) used n a Y Failed
-    partly-none Y r er t = record {
-      answer = subst (λ (rs : List Range). NoneOf W L rs used n a) (sym parts) (none-more W L (p .rs ++ and-its W o []) (ranges-from W s o) used n a (none-then W L X (p .rs) (and-its W o []) used n a u m b (p .sofar) (subst (ToldAll W X (and-its W o []) u m b Y) er t .answer)));
+    pub partly-none : (Y : List ℕ) (k : ℕ) (r : Around) → r ≡ Failed k → ToldAll W X (and-its W o []) u m b Y r → ToldAll W L (ranges-from W s i) used n a Y (Failed k)
+    partly-none Y k r er t = record {
+      answer = subst (λ (rs : List Range). NoneOf W L rs used n a Y k) (sym parts) (none-more W L (p .rs ++ and-its W o []) (ranges-from W s o) used n a Y k (none-then W L X (p .rs) (and-its W o []) used n a u m b (p .sofar) Y k (subst (ToldAll W X (and-its W o []) u m b Y) er t .answer)));
       rest = outside-then (p .rest) (t .rest);
     }

@@ -13,7 +13,7 @@ use Rattle.solve_tells.specs.Draws.{Drawn}
 use Rattle.solve_tells.specs.declared.Told as tolds
 use Rattle.solve_tells.specs.declared.Told.the-variants as told
 use Rattle.work_tables.specs.Tables.{logOf}
-use Rattle.work_marks.specs.Marks.{Mark, allTold, appsTold}
+use Rattle.work_marks.specs.Marks.{Mark, allTold, appsTold, Returns}
 use Rattle.work_enter.specs.Enters.{At, Entered}
 use Rattle.rule_ranges.specs.Ranges.{Range, ranges-from, told-all, log-words, apps-all}
 use Rattle.rule_ranges.specs.Asked.{Within, RangesDrawn}
@@ -58,13 +58,14 @@ pub record AllOf (W : List Word) (L : List ℕ) (rs : List Range) (used n a : �
   pub few : a′ ≤ a + apps-all W rs
   pub drawn : (vs : List ℕ) → Drawn (logOf used L) vs → RangesDrawn W rs vs → Drawn (logOf used′ X) vs
 
--- all that was told and the ranges have no solution
-pub record NoneOf (W : List Word) (L : List ℕ) (rs : List Range) (used n a : ℕ) : Type 0 where
+-- all that was told and the ranges have no solution; from a trail of m every walk that was at the mark can be brought back to it
+pub record NoneOf (W : List Word) (L : List ℕ) (rs : List Range) (used n a : ℕ) (X : List ℕ) (m : ℕ) : Type 0 where
+  pub returns : (ms : List Mark) → At L used n a ms → Returns X m ms
   pub none : (ms : List Mark) → At L used n a ms → (lab : ℕ → Label) → Distinct lab → Satisfiable (allTold lab ms ++ told-all lab W rs) → ⊥
 
 abbrev pub Answer : List Word → List ℕ → List Range → ℕ → ℕ → ℕ → List ℕ → Around → Type 0
 Answer W L rs used n a X (All u m b) = AllOf W L rs used n a X u m b
-Answer W L rs used n a X Failed = NoneOf W L rs used n a
+Answer W L rs used n a X (Failed m) = NoneOf W L rs used n a X m
 
 pub record ToldAll (W : List Word) (L : List ℕ) (rs : List Range) (used n a : ℕ) (X : List ℕ) (r : Around) : Type 0 where
   pub answer : Answer W L rs used n a X r

@@ -10,10 +10,10 @@ use mem_sorts::Kind;
 use solve_tells::Told;
 
 // All stores were told, and these are the used words of the log, the length of the trail and the applications; or they have no
-// solution with what was told before.
+// solution with what was told before, and this is the length of the trail, from which what was told can be taken back.
 pub enum Around {
     All(usize, usize, usize),
-    Failed,
+    Failed(usize),
 }
 
 // Pushes the `len` words of `t` from `from` on and tests them, as `work_enter` does, and says how many positions they took.
@@ -54,8 +54,8 @@ fn tell_box(t: &[u8], w: &mut [u8], o: usize, used: usize, n: usize, a: usize) -
             let k = used + len;
             Around::All(k + 3, m, b)
         }
-        Told::Failed(_m, _b) => Around::Failed,
-        Told::NoRoom(_m, _b) => Around::Failed,
+        Told::Failed(m, _b) => Around::Failed(m),
+        Told::NoRoom(m, _b) => Around::Failed(m),
     }
 }
 
@@ -81,13 +81,18 @@ pub fn tell_from(
         if o < s {
             return Around::All(u, m, b);
         }
-        let Around::All(x, y, z) = tell_box(t, w, o, u, m, b) else {
-            return Around::Failed;
-        };
-        u = x;
-        m = y;
-        b = z;
-        j = o;
+        let r = tell_box(t, w, o, u, m, b);
+        match r {
+            Around::All(x, y, z) => {
+                u = x;
+                m = y;
+                b = z;
+                j = o;
+            }
+            Around::Failed(k) => {
+                return Around::Failed(k);
+            }
+        }
     }
     Around::All(u, m, b)
 }

@@ -1,6 +1,6 @@
 // The solved guards of a goal tested in one walk over its words: is one quiet for which rule 6, 7 or 8 waits? The stores are told and taken
-// back as the boxes are entered and left. The solver's tables are as they were afterwards; only where stores have no solution all cells
-// are made zero.
+// back as the boxes are entered and left. The solver's tables are as they were afterwards; where an and-box has no solution all cells are
+// made zero.
 ghost use Rattle.mem_words.specs.Words.{words};
 ghost use Rattle.rule_solve.specs.Idle.{Idle};
 ghost use Rattle.step_turn.specs.Stood.{CanWalk};
@@ -90,8 +90,8 @@ pub fn guards_rest(t: &[u8], w: &mut [u8], g: usize) -> bool
     let r = rule_tells::tell_from(t, w, 0, g, 0, 0, 0);
     match r {
         Around::All(u, n, a) => walk(t, w, g, u, n, a),
-        Around::Failed => {
-            mem_parts::zero(w, 16384, 212992);
+        Around::Failed(m) => {
+            work_ranges::back(w, m, 0);
             step_walk::boxless(t, g) // no box has a solution with its environment
         }
     }

@@ -87,10 +87,10 @@ module _ (W : List Word) (g from : ℕ) (X : List ℕ) (j d k used n a : ℕ) (c
       ∙ told-more lab W (and-its W j []) (ranges-from W 0 j)
       ∙ ap (λ (rs : List Range). told-all lab W rs ++ told-all lab W (ranges-from W 0 j)) (sym one)
 
-  pub enter-none : (Y : List ℕ) (r : Around) → r ≡ Failed → ToldAll W X (ranges-from W j (j + 1)) used n a Y r → Unsolved W j
-  enter-none Y r er t = record { kind = e; none = record { right = λ lab h q. p .none ms (s .at) lab h (both lab q) } }
+  pub enter-none : (Y : List ℕ) (m : ℕ) (r : Around) → r ≡ Failed m → ToldAll W X (ranges-from W j (j + 1)) used n a Y r → Unsolved W j
+  enter-none Y m r er t = record { kind = e; none = record { right = λ lab h q. p .none ms (s .at) lab h (both lab q) } }
     where
-      p : NoneOf W X (ranges-from W j (j + 1)) used n a
+      p : NoneOf W X (ranges-from W j (j + 1)) used n a Y m
       p = subst (ToldAll W X (ranges-from W j (j + 1)) used n a Y) er t .answer
 
       both : (lab : ℕ → Label) → Satisfiable (told-all lab W (ranges-from W 0 (j + 1))) → Satisfiable (allTold lab ms ++ told-all lab W (ranges-from W j (j + 1)))

@@ -74,7 +74,7 @@ fn enter(
             step_frames::push(w, k, d, used, n, a);
             Next::On(0, k + 1, u, m, b)
         }
-        Around::Failed => Next::Fails,
+        Around::Failed(_m) => Next::Fails,
     }
 }
 

@@ -12,8 +12,8 @@ use Rattle.mem_words.specs.declared.Word.{Word}
 use Rattle.mem_sorts.specs.declared.Kind.the-variants.{And}
 use Rattle.solve_tells.proofs.Rooms.{drawn-none}
 use Rattle.solve_quiet.specs.Solver.{Marking}
-use Rattle.work_tables.specs.Tables.{logOf, localsOf, Laid, laid-after, length-log}
-use Rattle.work_marks.specs.Marks.{Walk}
+use Rattle.work_tables.specs.Tables.{logOf, localsOf, length-log}
+use Rattle.work_marks.specs.Marks.{Walk, Returns}
 use Rattle.work_enter.specs.Enters.{At}
 use Rattle.rule_words.specs.Scans.{close}
 use Rattle.rule_effects.specs.Effects.{behind}
@@ -77,11 +77,14 @@ module _ (W : List Word) (B : List ℕ) (g : ℕ) (w : Walk B []) (c : CanWalk W
       calm = record { at = λ i p q e. absurd (omega arith) };
     }
 
-  -- the environment fails
-  pub env-none : (Y : List ℕ) (r : Around) (b : Bool) → r ≡ Failed → ToldAll W B (ranges-from W 0 g) 0 0 0 Y r → Boxed W g b → BoxesCalm W g b × Laid Y
-  env-none Y r b er t x = (record { calm = λ e j p q k. absurd (x .none e j p q k); loud = λ e. let y = x .some e in (y .0, y .1, y .2, y .3, inl (unsolved (y .0) (y .1) (y .2) (y .3))) }, laid-after (start .walk .laid) (t .rest))
+  -- the environment fails: what was told can be taken back
+  pub env-returns : (Y : List ℕ) (m : ℕ) (r : Around) → r ≡ Failed m → ToldAll W B (ranges-from W 0 g) 0 0 0 Y r → Returns Y m []
+  env-returns Y m r er t = let n : NoneOf W B (ranges-from W 0 g) 0 0 0 Y m = subst (ToldAll W B (ranges-from W 0 g) 0 0 0 Y) er t .answer in n .returns [] start
+
+  pub env-none : (Y : List ℕ) (m : ℕ) (r : Around) (b : Bool) → r ≡ Failed m → ToldAll W B (ranges-from W 0 g) 0 0 0 Y r → Boxed W g b → BoxesCalm W g b
+  env-none Y m r b er t x = record { calm = λ e j p q k. absurd (x .none e j p q k); loud = λ e. let y = x .some e in (y .0, y .1, y .2, y .3, inl (unsolved (y .0) (y .1) (y .2) (y .3))) }
     where
-      none : NoneOf W B (ranges-from W 0 g) 0 0 0
+      none : NoneOf W B (ranges-from W 0 g) 0 0 0 Y m
       none = subst (ToldAll W B (ranges-from W 0 g) 0 0 0 Y) er t .answer
 
       open-at : (j : ℕ) → g ≤ j → j ≤ close W g → (os : List ℕ) × Opened W g j os

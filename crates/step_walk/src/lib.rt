@@ -1,5 +1,5 @@
 // The and-boxes of a goal tested in one walk over its words: their stores are told and taken back as the boxes are entered and left. The
-// solver's tables are as they were afterwards; only where stores have no solution all cells are made zero.
+// solver's tables are as they were afterwards; where an and-box has no solution all cells are made zero.
 ghost use mathlib.Core.List.{[]};
 ghost use Rattle.mem_words.specs.Words.{words};
 ghost use Rattle.solve_quiet.specs.Solver.{Marking};
@@ -71,8 +71,8 @@ fn calm_marked(t: &[u8], w: &mut [u8], g: usize) -> bool
     let r = rule_tells::tell_from(t, w, 0, g, 0, 0, 0);
     match r {
         Around::All(u, n, a) => walk(t, w, g, u, n, a),
-        Around::Failed => {
-            mem_parts::zero(w, 16384, 212992);
+        Around::Failed(m) => {
+            work_ranges::back(w, m, 0);
             boxless(t, g) // no box has a solution with its environment
         }
     }

@@ -104,6 +104,10 @@ log-prefix j k L A R h l e m =
 pub walk-returns : (news ms : List Mark) (L : List ℕ) → Walk L (news ++ ms) → Returns L (trailAt (news ++ ms)) ms
 walk-returns news ms L w = record { laid = w .laid; used = usedAt (news ++ ms); room = w .room; apps = appsAt (news ++ ms); under = under-then news ms _ _ _ _ _ _ _ (under-here (news ++ ms) _ _ _ _ _ (w .stand)) }
 
+-- what can be brought back to a mark can be brought back to those below it
+pub returns-below : (news ms : List Mark) (L : List ℕ) (n : ℕ) → Returns L n (news ++ ms) → Returns L n ms
+returns-below news ms L n r = record { laid = r .laid; used = r .used; room = r .room; apps = r .apps; under = under-then news ms _ _ _ _ _ _ _ (r .under) }
+
 -- and so can it after a push that left its changes, whatever it answered
 left-returns : (news ms : List Mark) (S : List Word) (L X : List ℕ) (from len n a : ℕ) → Walk L (news ++ ms) → usedAt (news ++ ms) + len + 3 ≤ 24576 → Outside 16384 335872 L X → logOf (usedAt (news ++ ms) + len + 3) X ≡ longer S L (usedAt (news ++ ms)) from len
     → Left (longer S L (usedAt (news ++ ms)) from len) (posOf L) (cellsOf L) (varsOf L) (oldsOf L) (trailAt (news ++ ms)) (appsAt (news ++ ms)) (posOf X) (cellsOf X) (varsOf X) (oldsOf X) n a → Returns X n ms

@@ -3,10 +3,10 @@ use mathlib.Core.Path.{_∙_}
 use mathlib.Core.List.{[]}
 use native.Mathlib.Omega.{arith}
 use Rattle.mem_words.specs.Words.{words}
-use Rattle.rule_solve.proofs.Idling.{marks-kept}
+use Rattle.rule_solve.proofs.Idling.{marks-kept, can-return}
 use Rattle.step_walk.proofs.Answers.{goal-first}
-use Rattle.step_walk.proofs.Beginning.{env-can, stood-first, env-none}
-use Rattle.step_walk.proofs.Ending.{zero-walk, zero-marks}
+use Rattle.step_walk.proofs.Beginning.{env-can, stood-first, env-returns, env-none}
+use Rattle.step_walk.proofs.Ending.{over-walk, over-marks}
 use Rattle.step_guards.proofs.Resting.{rest-unguarded, rest-boxless, asks-first}
 use borrow.Author.Needs.{needs}
 use Rattle.step_guards.proofs.guards_rest.Statement.{statement}
@@ -27,11 +27,11 @@ enum-known-r c = search needs
 walk-requires : tie.Need-walk-requires
 walk-requires c κs = (c .before .before .before .before .before .before .before .before .before .before .before .before .pre .1, asks-first (stood-first (words (c .before .before .before .before .before .before .before .before .before .before .before .before .args .t .now)) _ (c .before .before .before .before .before .before .before .before .before .before .before .before .args .g) (c .before .before .before .before .before .before .before .before .before .before .before .before .pre .0 .walk) (c .before .before .before .before .before .before .before .before .before .before .before .before .pre .1) _ _ _ _ (c .before .before .before .before .before .before .tell-from .result) (c .before .before .r .given .1) (c .before .before .before .before .before .before .tell-from .ensures)) (marks-kept [] (c .before .before .before .before .before .before .tell-from .ensures .rest) (c .before .before .before .before .before .before .before .before .before .before .before .before .pre .0 .unmarked)))
 
-enum-told : tie.Need-enum-told
-enum-told c = search needs
+enum-known-r-2 : tie.Need-enum-known-r-2
+enum-known-r-2 c = search needs
 
-zero-requires : tie.Need-zero-requires
-zero-requires c κs = record { le = omega arith; fits = omega (arith, c .before .before .before .before .before .before .before .before .before .before .before .pre .0 .walk .laid .long, c .before .before .before .before .before .tell-from .ensures .rest .long) }
+back-requires : tie.Need-back-requires
+back-requires c κs = can-return (env-returns (words (c .before .before .before .before .before .before .before .before .before .before .before .before .args .t .now)) _ (c .before .before .before .before .before .before .before .before .before .before .before .before .args .g) (c .before .before .before .before .before .before .before .before .before .before .before .before .pre .0 .walk) (c .before .before .before .before .before .before .before .before .before .before .before .before .pre .1) _ _ (c .before .before .before .before .before .before .tell-from .result) (c .before .before .r2 .given .1) (c .before .before .before .before .before .before .tell-from .ensures)) _ _ (omega arith) (omega arith)
 
 boxless-requires : tie.Need-boxless-requires
 boxless-requires c κs = search needs
@@ -43,12 +43,12 @@ returns-2 : tie.Need-returns-2
 returns-2 c = c .before .before .walk .ensures
 
 same-length-2 : tie.Need-same-length-2
-same-length-2 c = c .before .before .before .zero .kept .0 ∙ c .before .before .before .before .before .before .before .before .before .tell-from .kept .1 .0
+same-length-2 c = c .before .before .before .back .kept .0 ∙ c .before .before .before .before .before .before .before .before .before .before .tell-from .kept .1 .0
 
 returns-3 : tie.Need-returns-3
 returns-3 c =
-    let q = env-none (words (c .before .before .before .before .before .before .before .before .before .before .before .before .before .before .before .args .t .now)) _ (c .before .before .before .before .before .before .before .before .before .before .before .before .before .before .before .args .g) (c .before .before .before .before .before .before .before .before .before .before .before .before .before .before .before .pre .0 .walk) (c .before .before .before .before .before .before .before .before .before .before .before .before .before .before .before .pre .1) _ (c .before .before .before .before .before .before .before .before .before .tell-from .result) (c .boxless .result) (c .before .before .before .before .before .enum-told .given .1) (c .before .before .before .before .before .before .before .before .before .tell-from .ensures) (c .boxless .ensures) in
-    (rest-boxless (words (c .before .before .before .before .before .before .before .before .before .before .before .before .before .before .before .args .t .now)) (c .before .before .before .before .before .before .before .before .before .before .before .before .before .before .before .args .g) (c .boxless .result) (q .0) (c .boxless .ensures), record { walk = zero-walk (q .1) (c .before .before .before .zero .ensures); unmarked = zero-marks [] (c .before .before .before .zero .ensures) (marks-kept [] (c .before .before .before .before .before .before .before .before .before .tell-from .ensures .rest) (c .before .before .before .before .before .before .before .before .before .before .before .before .before .before .before .pre .0 .unmarked)) })
+    (rest-boxless (words (c .before .before .before .before .before .before .before .before .before .before .before .before .before .before .before .before .args .t .now)) (c .before .before .before .before .before .before .before .before .before .before .before .before .before .before .before .before .args .g) (c .boxless .result) (env-none (words (c .before .before .before .before .before .before .before .before .before .before .before .before .before .before .before .before .args .t .now)) _ (c .before .before .before .before .before .before .before .before .before .before .before .before .before .before .before .before .args .g) (c .before .before .before .before .before .before .before .before .before .before .before .before .before .before .before .before .pre .0 .walk) (c .before .before .before .before .before .before .before .before .before .before .before .before .before .before .before .before .pre .1) _ _ (c .before .before .before .before .before .before .before .before .before .before .tell-from .result) (c .boxless .result) (c .before .before .before .before .before .before .r2 .given .1) (c .before .before .before .before .before .before .before .before .before .before .tell-from .ensures) (c .boxless .ensures)) (c .boxless .ensures),
+    record { walk = over-walk (env-returns (words (c .before .before .before .before .before .before .before .before .before .before .before .before .before .before .before .before .args .t .now)) _ (c .before .before .before .before .before .before .before .before .before .before .before .before .before .before .before .before .args .g) (c .before .before .before .before .before .before .before .before .before .before .before .before .before .before .before .before .pre .0 .walk) (c .before .before .before .before .before .before .before .before .before .before .before .before .before .before .before .before .pre .1) _ _ (c .before .before .before .before .before .before .before .before .before .before .tell-from .result) (c .before .before .before .before .before .before .r2 .given .1) (c .before .before .before .before .before .before .before .before .before .before .tell-from .ensures)) _ (c .before .before .before .back .ensures); unmarked = over-marks [] (c .before .before .before .back .ensures) (marks-kept [] (c .before .before .before .before .before .before .before .before .before .before .tell-from .ensures .rest) (c .before .before .before .before .before .before .before .before .before .before .before .before .before .before .before .before .pre .0 .unmarked)) })
 
 pub guards-rest-spec : {M : Type 1} → statement M
-guards-rest-spec = tie.close (tie.spec unguarded-requires returns tell-from-requires enum-known-r walk-requires enum-told zero-requires boxless-requires same-length returns-2 same-length-2 returns-3)
+guards-rest-spec = tie.close (tie.spec unguarded-requires returns tell-from-requires enum-known-r walk-requires enum-known-r-2 back-requires boxless-requires same-length returns-2 same-length-2 returns-3)
