@@ -32,11 +32,11 @@ same-length c = c .before .before .push .kept .0 ∙ c .before .before .before .
 
 returns : tie.Need-returns
 returns c = record {
-      goes = λ g o h s l. enter-done (words (c .before .before .before .before .before .before .before .before .before .before .before .before .before .args .t .now)) g o _ (c .before .before .before .before .before .before .before .before .before .before .before .before .before .args .j) _ _ _ _ _ h s l (c .before .before .before .before .before .before .before .before .before .before .before .before .before .pre .1) _ _ _ _ (c .before .before .before .before .before .before .before .before .before .tell-from .result) (c .before .before .before .before .before .r .given .1) (c .before .before .before .before .before .before .before .before .before .tell-from .ensures) _ (c .before .before .push .ensures);
-      locals = enter-locals (words (c .before .before .before .before .before .before .before .before .before .before .before .before .before .args .t .now)) (c .before .before .before .before .before .before .before .before .before .before .before .before .before .pre .0 .goal) _ _ (c .before .before .before .before .before .before .before .before .before .before .before .before .before .args .j) _ _ _ _ _ (c .before .before .before .before .before .before .before .before .before .before .before .before .before .pre .0 .can) (c .before .before .before .before .before .before .before .before .before .before .before .before .before .pre .0 .stood) (c .before .before .before .before .before .before .before .before .before .before .before .before .before .pre .0 .low) (c .before .before .before .before .before .before .before .before .before .before .before .before .before .pre .1) _ _ _ _ (c .before .before .before .before .before .before .before .before .before .tell-from .result) (c .before .before .before .before .before .r .given .1) (c .before .before .before .before .before .before .before .before .before .tell-from .ensures) _ (c .before .before .push .ensures);
-      rest = outside-then (outside-wide 0 466944 (omega arith) (omega arith) (c .before .before .before .before .before .before .before .before .before .tell-from .ensures .rest)) (outside-wide 0 466944 (omega arith) (omega arith) (c .before .before .push .ensures .rest));
-      laid = laid-after (push-can (words (c .before .before .before .before .before .before .before .before .before .before .before .before .before .args .t .now)) (c .before .before .before .before .before .before .before .before .before .before .before .before .before .pre .0 .goal) _ _ (c .before .before .before .before .before .before .before .before .before .before .before .before .before .args .j) _ _ _ _ _ (c .before .before .before .before .before .before .before .before .before .before .before .before .before .pre .0 .can) (c .before .before .before .before .before .before .before .before .before .before .before .before .before .pre .0 .stood) (c .before .before .before .before .before .before .before .before .before .before .before .before .before .pre .0 .low) (c .before .before .before .before .before .before .before .before .before .before .before .before .before .pre .1) _ _ _ _ (c .before .before .before .before .before .before .before .before .before .tell-from .result) (c .before .before .before .before .before .r .given .1) (c .before .before .before .before .before .before .before .before .before .tell-from .ensures) .laid) (c .before .before .push .ensures .rest);
-    }
+  goes = λ g o h s l. enter-done (words (c .before .before .before .before .before .before .before .before .before .before .before .before .before .args .t .now)) g o _ (c .before .before .before .before .before .before .before .before .before .before .before .before .before .args .j) _ _ _ _ _ h s l (c .before .before .before .before .before .before .before .before .before .before .before .before .before .pre .1) _ _ _ _ (c .before .before .before .before .before .before .before .before .before .tell-from .result) (c .before .before .before .before .before .r .given .1) (c .before .before .before .before .before .before .before .before .before .tell-from .ensures) _ (c .before .before .push .ensures);
+  locals = enter-locals (words (c .before .before .before .before .before .before .before .before .before .before .before .before .before .args .t .now)) (c .before .before .before .before .before .before .before .before .before .before .before .before .before .pre .0 .goal) _ _ (c .before .before .before .before .before .before .before .before .before .before .before .before .before .args .j) _ _ _ _ _ (c .before .before .before .before .before .before .before .before .before .before .before .before .before .pre .0 .can) (c .before .before .before .before .before .before .before .before .before .before .before .before .before .pre .0 .stood) (c .before .before .before .before .before .before .before .before .before .before .before .before .before .pre .0 .low) (c .before .before .before .before .before .before .before .before .before .before .before .before .before .pre .1) _ _ _ _ (c .before .before .before .before .before .before .before .before .before .tell-from .result) (c .before .before .before .before .before .r .given .1) (c .before .before .before .before .before .before .before .before .before .tell-from .ensures) _ (c .before .before .push .ensures);
+  rest = outside-then (outside-wide 0 466944 (omega arith) (omega arith) (c .before .before .before .before .before .before .before .before .before .tell-from .ensures .rest)) (outside-wide 0 466944 (omega arith) (omega arith) (c .before .before .push .ensures .rest));
+  laid = laid-after (push-can (words (c .before .before .before .before .before .before .before .before .before .before .before .before .before .args .t .now)) (c .before .before .before .before .before .before .before .before .before .before .before .before .before .pre .0 .goal) _ _ (c .before .before .before .before .before .before .before .before .before .before .before .before .before .args .j) _ _ _ _ _ (c .before .before .before .before .before .before .before .before .before .before .before .before .before .pre .0 .can) (c .before .before .before .before .before .before .before .before .before .before .before .before .before .pre .0 .stood) (c .before .before .before .before .before .before .before .before .before .before .before .before .before .pre .0 .low) (c .before .before .before .before .before .before .before .before .before .before .before .before .before .pre .1) _ _ _ _ (c .before .before .before .before .before .before .before .before .before .tell-from .result) (c .before .before .before .before .before .r .given .1) (c .before .before .before .before .before .before .before .before .before .tell-from .ensures) .laid) (c .before .before .push .ensures .rest);
+}
 
 same-length-2 : tie.Need-same-length-2
 same-length-2 c = c .before .before .before .before .before .tell-from .kept .1 .0
@@ -44,11 +44,11 @@ same-length-2 c = c .before .before .before .before .before .tell-from .kept .1 
 returns-2 : tie.Need-returns-2
 unfolding localsOf
 returns-2 c = record {
-      goes = λ g o h s l. enter-none (words (c .before .before .before .before .before .before .before .before .before .args .t .now)) g o _ (c .before .before .before .before .before .before .before .before .before .args .j) _ _ _ _ _ h s l (c .before .before .before .before .before .before .before .before .before .pre .1) _ _ (c .before .before .before .before .before .tell-from .result) (c .before .r2 .given .1) (c .before .before .before .before .before .tell-from .ensures);
-      locals = cut-right 335872 401408 (omega arith) (c .before .before .before .before .before .tell-from .ensures .rest);
-      rest = outside-wide 0 466944 (omega arith) (omega arith) (c .before .before .before .before .before .tell-from .ensures .rest);
-      laid = laid-after (c .before .before .before .before .before .before .before .before .before .pre .0 .stood .at .walk .laid) (c .before .before .before .before .before .tell-from .ensures .rest);
-    }
+  goes = λ g o h s l. enter-none (words (c .before .before .before .before .before .before .before .before .before .args .t .now)) g o _ (c .before .before .before .before .before .before .before .before .before .args .j) _ _ _ _ _ h s l (c .before .before .before .before .before .before .before .before .before .pre .1) _ _ (c .before .before .before .before .before .tell-from .result) (c .before .r2 .given .1) (c .before .before .before .before .before .tell-from .ensures);
+  locals = cut-right 335872 401408 (omega arith) (c .before .before .before .before .before .tell-from .ensures .rest);
+  rest = outside-wide 0 466944 (omega arith) (omega arith) (c .before .before .before .before .before .tell-from .ensures .rest);
+  laid = laid-after (c .before .before .before .before .before .before .before .before .before .pre .0 .stood .at .walk .laid) (c .before .before .before .before .before .tell-from .ensures .rest);
+}
 
 pub enter-spec : {M : Type 1} → statement M
 enter-spec = tie.close (tie.spec add-tell-from tell-from-requires enum-known-r push-requires add-t21 enum-known-r-2 same-length returns same-length-2 returns-2)
