@@ -3,7 +3,7 @@ use mathlib.Core.Path.{_≡_, refl}
 use mathlib.Core.List.{List}
 use Prim.Native.Nat.{ℕ}
 use lib.ListN.{getD}
-use Rattle.store_form.specs.Sizes.{most-nodes, most-program-words, most-rules, header-length}
+use Rattle.store_form.specs.Sizes.{most-nodes, most-program-words, most-together, header-length}
 use Rattle.check_held.specs.Checks.{Counts}
 use Rattle.check_header.specs.declared.Header.{Header}
 use Rattle.check_header.specs.declared.Heading.{Heading}
@@ -23,6 +23,6 @@ Headed limit h (Counted c) = Read limit h c
 Headed limit h Wrong = Counts limit h → ⊥
 
 -- the bounds, as numbers
-pub bounds : (most-nodes ≡ 20489) × (most-program-words ≡ 40960) × (header-length ≡ 18) × (most-rules ≡ 53257)
-unfolding most-nodes most-program-words most-rules header-length
+pub bounds : (most-nodes ≡ 20489) × (most-program-words ≡ 40960) × (header-length ≡ 18) × (most-together ≡ 53257)
+unfolding most-nodes most-program-words most-together header-length
 bounds = (refl, refl, refl, refl)

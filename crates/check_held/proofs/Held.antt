@@ -17,7 +17,7 @@ use Rattle.mem_words.specs.Words.{words, length-words}
 use Rattle.mem_words.specs.Form.{Bytes, NoBad, AllSmall, bytes-of, words-bytes}
 use Rattle.read_nodes.specs.Spell.{named}
 use Rattle.store_words.specs.Boxes.{node-words}
-use Rattle.store_form.specs.Sizes.{most-rules, header-length, program-length, variables-length, config-length, program-start, variables-start, config-start, store-length}
+use Rattle.store_form.specs.Sizes.{most-together, header-length, program-length, variables-length, config-length, program-start, variables-start, config-start, store-length}
 use Rattle.store_form.specs.State.{State, table, node-count, number-in, well-formed-state}
 use Rattle.store_form.specs.Form.{numbers-bytes, region, rules-words, config-words, header, store-bytes}
 use Rattle.store_form.specs.Holding.{Fits, below, piece}
@@ -35,11 +35,11 @@ use Rattle.check_held.proofs.Cut.{bytes-take, bytes-piece, triples-byte
 
 pub record Places (limit : ℕ) : Type 0 where
   pub header : header-length ≡ 18
-  pub program : (n : ℕ) → program-length n ≡ 3 * (most-rules - n)
+  pub program : (n : ℕ) → program-length n ≡ 3 * (most-together - n)
   pub variables : variables-length ≡ 48
   pub config : config-length limit ≡ 3 * (14 * limit)
   pub at-program : (n : ℕ) → program-start n ≡ header-length + 3 * n
-  pub at-variables : variables-start ≡ header-length + 3 * most-rules
+  pub at-variables : variables-start ≡ header-length + 3 * most-together
   pub at-config : config-start ≡ variables-start + variables-length
   pub at-end : store-length limit ≡ config-start + config-length limit
 

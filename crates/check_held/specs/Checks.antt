@@ -17,7 +17,7 @@ use Rattle.mem_words.specs.declared.Word.{Word}
 use Rattle.mem_words.specs.Words.{words}
 use Rattle.read_nodes.specs.Spell.{named}
 use Rattle.store_words.specs.Boxes.{node-words}
-use Rattle.store_form.specs.Sizes.{form-number, most-nodes, most-program-words, most-rules, part-words, two-bytes, header-length, program-start, variables-start, config-start, store-length}
+use Rattle.store_form.specs.Sizes.{form-number, most-nodes, most-program-words, most-together, part-words, two-bytes, header-length, program-start, variables-start, config-start, store-length}
 use Rattle.store_form.specs.State.{State, number-in}
 use Rattle.store_form.specs.Holding.{lowered, below, piece}
 use Rattle.check_zeros.specs.Zeros.{Zeros}
@@ -67,12 +67,13 @@ pub record Counts (limit : ℕ) (h : List ℕ) : Type 0 where
   pub root : 1 ≤ getD h 1 0
   pub nodes : getD h 1 0 ≤ most-nodes
   pub rules : getD h 2 0 ≤ most-program-words
-  pub together : getD h 1 0 + getD h 2 0 ≤ most-rules
+  pub together : getD h 1 0 + getD h 2 0 ≤ most-together
   pub variables : getD h 3 0 ≤ most-query-variables
   pub words : getD h 4 0 ≤ part-words * limit
   pub next : getD h 5 0 < two-bytes
 
--- What is not used of each region is zero, that of names and program being one.
+-- What is not used of each region is zero: behind the program, which stands behind the names; behind the variables; behind the
+-- configuration.
 pub record Unused (limit : ℕ) (b : List ℕ) : Type 0 where
   pub rules : Zeros b (program-start (nodes-in b) + 3 * rules-in b) variables-start
   pub variables : Zeros b (variables-start + 3 * variables-in b) config-start

@@ -7,12 +7,9 @@ use native.Mathlib.Decide.{ℕ-discrete}
 use lib.ListN.{getD}
 use Rattle.constraint.specs.Constraint.{In}
 use Rattle.constraint.proofs.Trees.{dec-in}
-use Rattle.mem_parts.specs.Parts.{Zeroed, outside-then}
 use Rattle.solve_quiet.specs.Owners.{Outer}
 use Rattle.solve_quiet.specs.Solver.{Marking}
 use Rattle.work_tables.specs.Tables.{localsOf}
-use Rattle.work_judge.specs.Judging.{Locals}
-use Rattle.work_judge.proofs.Locals.{locals-none}
 use Rattle.rule_locals.specs.Inside.{Given}
 
 -- what is not marked has no mark
@@ -39,6 +36,3 @@ module _ {L X vs : List ℕ} where
       go : (x : ℕ) → Dec (In x vs) → Outer (localsOf X) x
       go x (yes i) = g .inside x i
       go x (no i) = g .others x i ∙ outer (localsOf L) x (λ o. i (m x .1 o))
-
-pub locals-of : {L A X vs : List ℕ} → Zeroed 335872 401408 L A → Given A vs 1 X → Locals L vs X
-locals-of {L} {A} z g = record { marks = marked-now g (locals-none L [] A z .marks); rest = outside-then (z .rest) (g .rest) }

@@ -4,7 +4,6 @@ ghost use Prim.Native.Nat.{_<_};
 ghost use Rattle.mem_words.specs.Words.{words};
 ghost use Rattle.solve_fields.specs.Read.{Vars, varOf};
 ghost use Rattle.work_tables.specs.Tables.{Laid};
-ghost use Rattle.work_judge.specs.Judging.{Locals};
 ghost use Rattle.rule_ranges.specs.Ranges.{opens-locals, locals-at};
 ghost use Rattle.rule_locals.specs.Inside.{inside, Given, Adds, EndsAt};
 use mem_sorts::Sort;
@@ -87,13 +86,4 @@ pub fn give_inside(t: &[u8], w: &mut [u8], g: usize, v: usize)
         b = behind_word(b, x);
         j += 1;
     }
-}
-
-// Marks all locals inside the goal at `g`, and no other variables.
-pub fn mark_inside(t: &[u8], w: &mut [u8], g: usize)
-    requires { ⌜ Laid (now w) × Vars (words (now t)) 65536 ⌝ }
-    ensures { λ _. ⌜ Locals (now (w .entry)) (locals-at (words (now (t .entry))) g) (now (w .exit)) ⌝ }
-{
-    mem_parts::zero(w, 335872, 401408);
-    give_inside(t, w, g, 1);
 }

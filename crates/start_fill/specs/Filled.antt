@@ -6,7 +6,7 @@ use Prim.Native.Nat.{ℕ, _+_, _-_, _*_, _≤_}
 use native.Mathlib.Omega.{arith}
 use lib.ListN.{length, drop, replicate}
 use Rattle.akl.specs.Limits.{most-parts}
-use Rattle.store_form.specs.Sizes.{most-rules, header-length, program-length, variables-length, config-length, variables-start, config-start, store-length}
+use Rattle.store_form.specs.Sizes.{most-together, header-length, program-length, variables-length, config-length, variables-start, config-start, store-length}
 use Rattle.store_form.specs.Form.{region}
 use Rattle.store_pieces.proofs.Numbers.{ByteList}
 use Rattle.store_regions.specs.Regions.{Regioned}
@@ -37,15 +37,15 @@ pub record Known (N R W C : List ℕ) : Type 0 where
   pub variables : ByteList W
   pub words : ByteList C
 
--- the lengths as numbers
-program-is : (m : ℕ) → program-length m ≡ 159789 - (18 + 3 * m)
-unfolding program-length most-rules
-program-is m = omega arith
-
 -- a region that is full
 full : (n : ℕ) (l r : List ℕ) → length l ≡ n → region n l r ≡ l ++ r
 unfolding region
 full n l r h = let z : n - length l ≡ 0 = omega arith in ap (λ (k : ℕ). l ++ (replicate k 0 ++ r)) z
+
+-- the lengths as numbers
+program-is : (m : ℕ) → program-length m ≡ 159789 - (18 + 3 * m)
+unfolding program-length most-together
+program-is m = omega arith
 
 variables-is : variables-length ≡ 159837 - 159789
 unfolding variables-length
@@ -56,7 +56,7 @@ unfolding config-length
 config-is = refl
 
 pub store-is : store-length most-parts ≡ 245853
-unfolding store-length config-start variables-start header-length most-rules variables-length config-length
+unfolding store-length config-start variables-start header-length most-together variables-length config-length
 store-is = refl
 
 pub filled : (m : ℕ) (L H N R W C X1 X2 X3 X4 X5 : List ℕ) → 245853 ≤ length L → length H ≡ 18 → length N ≡ 3 * m → 3 * m + length R ≤ 159771 → length W ≤ 48 → length C ≤ 86016

@@ -25,12 +25,12 @@ use Rattle.mem_sorts.specs.declared.Kind.the-variants.{Or, And, Member}
 use Rattle.mem_sorts.specs.declared.Sort.the-variants.{Locals, Store}
 use Rattle.mem_words.specs.Words.{words, length-words}
 use Rattle.mem_words.specs.Form.{bytes-of, NoBad}
-use Rattle.layout.specs.Layout.{stmt-words, program-words}
+use Rattle.layout.specs.Layout.{stmt-words}
 use Rattle.read_inputs.specs.Inputs.{Loaded}
 use Rattle.read_nodes.specs.Spell.{named}
 use Rattle.store_words.specs.Boxes.{local-words}
 use Rattle.store_words.proofs.Sizes.{size-length}
-use Rattle.store_form.specs.Sizes.{form-number, most-nodes, most-rules, program-length, variables-length, config-length, store-length}
+use Rattle.store_form.specs.Sizes.{form-number, most-nodes, most-together, program-length, variables-length, config-length, store-length}
 use Rattle.store_form.specs.State.{State, table, node-count, number-in}
 use Rattle.store_form.specs.Form.{numbers-bytes, region, rules-words, config-words, header, store-bytes}
 use Rattle.store_form.specs.Holding.{Fits}
@@ -175,7 +175,7 @@ module _ (text query N D c r Q g : List ℕ) (d a v b m : ℕ) (read : Loaded te
 
   -- What is left to do may be done.
   pub can-settle : length (words g) ≤ 65536 → CanSettle c r Q (words g) m a v b
-  unfolding most-rules
+  unfolding most-together
   can-settle short =
       let F = rules-together text query N (words r) Q (words g) a v b m P q left in
       let h = read .room .1 in

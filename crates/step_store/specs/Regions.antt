@@ -1,5 +1,5 @@
--- The words in the regions of a store's bytes b, n those of its configuration and m those of its program, which stand behind the names, and the region of the working
--- slice in which the next configuration is built. Assumes nothing.
+-- The words of a store's bytes b: n of its configuration, and m of its program, which begins behind the names; and the region of the
+-- working slice in which the next configuration is built. Assumes nothing.
 use mathlib.Core.Path.{_≡_}
 use mathlib.Core.List.{List}
 use Prim.Native.Nat.{ℕ, _+_, _*_, _≤_}

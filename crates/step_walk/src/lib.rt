@@ -1,5 +1,5 @@
-// The and-boxes of a goal tested in one walk over its words: their stores are told and taken back as the boxes are entered and left. The
-// solver's tables are as they were afterwards; where an and-box has no solution all cells are made zero.
+// The and-boxes of a goal tested in one walk over its words: their stores are told and taken back as the boxes are entered and left.
+// Before and afterwards nothing is told and no variable is marked; where an and-box has no solution all cells are made zero.
 ghost use mathlib.Core.List.{[]};
 ghost use Rattle.mem_words.specs.Words.{words};
 ghost use Rattle.solve_quiet.specs.Solver.{Marking};
@@ -59,7 +59,7 @@ fn walk(t: &[u8], w: &mut [u8], g: usize, u: usize, n: usize, a: usize) -> bool
             }
         }
     }
-    work_ranges::back(w, y, 0);
+    work_ranges::back(w, y, 0); // the environment
     true
 }
 

@@ -16,7 +16,7 @@ use Rattle.read_nodes.specs.Spell.{spell, named}
 use Rattle.runs.specs.Outcomes.{Outcome, refusal, accepted, shown, stands, outcomes}
 use Rattle.layout.specs.Layout.{program-words}
 use Rattle.store_words.specs.Boxes.{local-words, store-words, node-words}
-use Rattle.store_form.specs.Sizes.{most-nodes, most-program-words, most-rules, header-length, variables-length, config-length, variables-start, config-start, store-length}
+use Rattle.store_form.specs.Sizes.{most-nodes, most-program-words, most-together, header-length, variables-length, config-length, variables-start, config-start, store-length}
 use Rattle.store_form.specs.Form.{rules-words, config-words, store-bytes}
 use Rattle.store_form.specs.Holding.{lowered, small-word, Fits, fits}
 use Rattle.store_form.proofs.Reading.{fits-says}
@@ -97,7 +97,7 @@ abbrev unformed : State
 unformed = record { cells = []; program = []; variables = []; config = record { root = and [] [] nil; next = 0 } }
 
 unformed-fits : Fits most-parts unformed
-unfolding everything fits lowered small-word most-nodes most-program-words most-rules rules-words config-words program-words node-words local-words store-words
+unfolding everything fits lowered small-word most-nodes most-program-words most-together rules-words config-words program-words node-words local-words store-words
 unformed-fits = fits-says most-parts unformed .0 tt
 
 module _ (rest : List ℕ) where
@@ -133,5 +133,5 @@ module _ (rest : List ℕ) where
 
 -- A store that is too short: 8, but 18 of a steps text before it.
 pub short-store : (slices-short most-parts 0 (0 ∷ []) 0 ≡ true) × (run-outcome most-parts 0 (0 ∷ []) 0 (bytes "x") ≡ called (refusal 18) (0 ∷ []))
-unfolding everything slices-short run-outcome store-length config-start variables-start header-length variables-length config-length most-rules
+unfolding everything slices-short run-outcome store-length config-start variables-start header-length variables-length config-length most-together
 short-store = (refl, refl)

@@ -19,7 +19,7 @@ use Rattle.mem_sorts.specs.declared.Sort.the-variants.{Locals, Store, True, App
 use Rattle.layout.specs.Layout.{var-word, vars-words, ask, con-words, stmt-words, program-words}
 use Rattle.read_nodes.specs.Spell.{spell, named}
 use Rattle.store_words.specs.Boxes.{local-words, store-words, node-words}
-use Rattle.store_form.specs.Sizes.{most-nodes, most-program-words, most-rules}
+use Rattle.store_form.specs.Sizes.{most-nodes, most-program-words, most-together}
 use Rattle.store_form.specs.State.{State, number-from, number-in, names-of, well-formed-state}
 use Rattle.store_form.specs.Form.{number-bytes, numbers-bytes, region, rules-words, config-words, header, store-bytes}
 use Rattle.store_form.specs.Holding.{lowered, small-word, fits, read-store}
@@ -94,7 +94,7 @@ unfolding everything record-state named spell
 record-formed = tt
 
 record-fits : T (fits most-parts record-state)
-unfolding everything record-state named spell fits lowered small-word most-nodes most-program-words most-rules rules-words config-words number-in number-from program-words node-words local-words store-words stmt-words con-words vars-words var-word ask
+unfolding everything record-state named spell fits lowered small-word most-nodes most-program-words most-together rules-words config-words number-in number-from program-words node-words local-words store-words stmt-words con-words vars-words var-word ask
 record-fits = tt
 
 -- and is read back from them
@@ -106,7 +106,7 @@ abbrev with-cells : List ℕ → State
 with-cells l = record { cells = l; program = []; variables = []; config = record { root = or nil; next = 0 } }
 
 pub refuses-tables : (fits most-parts (with-cells (cell 0 97 ∷ cell 1 98 ∷ [])) ≡ true) × (fits most-parts (with-cells (cell 1 97 ∷ [])) ≡ false) × (fits most-parts (with-cells (cell 0 97 ∷ cell 0 97 ∷ [])) ≡ false)
-unfolding everything fits lowered small-word most-nodes most-program-words most-rules rules-words config-words program-words node-words
+unfolding everything fits lowered small-word most-nodes most-program-words most-together rules-words config-words program-words node-words
 refuses-tables = (refl, refl, refl)
 
 -- nor a name that the table does not have, a variable's name that is none of its numbers, or a number of three bytes
@@ -114,5 +114,5 @@ abbrev with-rest : List ℕ → ℕ → State
 with-rest xs n = record { cells = 97 ∷ []; program = []; variables = xs; config = record { root = or nil; next = n } }
 
 pub refuses-rest : (fits most-parts (with-rest (1 ∷ []) 1) ≡ true) × (fits most-parts (with-rest (2 ∷ []) 1) ≡ false) × (fits most-parts (with-rest (1 ∷ []) 65536) ≡ false)
-unfolding everything fits lowered small-word most-nodes most-program-words most-rules rules-words config-words program-words node-words
+unfolding everything fits lowered small-word most-nodes most-program-words most-together rules-words config-words program-words node-words
 refuses-rest = (refl, refl, refl)

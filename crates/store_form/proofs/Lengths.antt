@@ -8,18 +8,18 @@ use Rattle.akl.specs.Limits.{most-parts}
 use Rattle.akl.specs.Syntax.{Program}
 use Rattle.theory.specs.Formed.{Formed}
 use Rattle.store_words.proofs.Formed.{formed-size}
-use Rattle.store_form.specs.Sizes.{most-rules, part-words, header-length, variables-length, config-length, variables-start, config-start, store-length}
+use Rattle.store_form.specs.Sizes.{most-together, part-words, header-length, variables-length, config-length, variables-start, config-start, store-length}
 use Rattle.store_form.specs.State.{State, table, number-in}
 use Rattle.store_form.specs.Form.{config-words}
 
 -- Where the regions begin, and how long a store is.
 pub starts : (header-length ≡ 18) × (variables-start ≡ 159789) × (config-start ≡ 159837)
-unfolding header-length variables-start config-start variables-length most-rules
+unfolding header-length variables-start config-start variables-length most-together
 starts = (refl, refl, refl)
 
 -- for 2,048 parts, and for 8,192
 pub lengths : (store-length most-parts ≡ 245853) × (store-length 8192 ≡ 503901)
-unfolding store-length config-length header-length variables-start config-start variables-length most-rules
+unfolding store-length config-length header-length variables-start config-start variables-length most-together
 lengths = (refl, refl)
 
 -- the words of a well-formed configuration fit their region

@@ -24,7 +24,7 @@ use Rattle.mem_words.specs.Form.{bytes-of, length-bytes-of, bytes-words}
 use Rattle.read_nodes.specs.Spell.{named}
 use Rattle.store_words.specs.Reading.{read-node}
 use Rattle.store_words.proofs.Back.{node-back}
-use Rattle.store_form.specs.Sizes.{most-nodes, most-program-words, most-rules, part-words, two-bytes, header-length, program-length, variables-length, config-length, program-start, variables-start, config-start, store-length}
+use Rattle.store_form.specs.Sizes.{most-nodes, most-program-words, most-together, part-words, two-bytes, header-length, program-length, variables-length, config-length, program-start, variables-start, config-start, store-length}
 use Rattle.store_form.specs.State.{State, table, node-count, number-in}
 use Rattle.store_form.specs.Form.{numbers-bytes, region, rules-words, config-words, header, store-bytes}
 use Rattle.store_form.specs.Holding.{lowered, small-word, below, Fits, Holds, fits, built, piece, parsed, read-store}
@@ -72,7 +72,7 @@ Tests limit s =
     × T (lowered 1 (s .cells))
     × T (distinct (s .cells))
     × T (leb (length (rules-words s)) most-program-words)
-    × T (leb (node-count s + length (rules-words s)) most-rules)
+    × T (leb (node-count s + length (rules-words s)) most-together)
     × T (all small-word (rules-words s))
     × T (leb (length (s .variables)) most-query-variables)
     × T (all (below (node-count s)) (s .variables))
@@ -85,7 +85,7 @@ unfolding fits
 fits-says limit s = (λ t. there (tests .0 t), λ F. tests .1 (back F))
   where
     tests : T (fits limit s) ↔ Tests limit s
-    tests = eleven (leb (node-count s) most-nodes) (lowered 1 (s .cells)) (distinct (s .cells)) (leb (length (rules-words s)) most-program-words) (leb (node-count s + length (rules-words s)) most-rules) (all small-word (rules-words s)) (leb (length (s .variables)) most-query-variables) (all (below (node-count s)) (s .variables)) (leb (length (config-words s)) (part-words * limit)) (all small-word (config-words s)) (ltb (s .config .next) two-bytes)
+    tests = eleven (leb (node-count s) most-nodes) (lowered 1 (s .cells)) (distinct (s .cells)) (leb (length (rules-words s)) most-program-words) (leb (node-count s + length (rules-words s)) most-together) (all small-word (rules-words s)) (leb (length (s .variables)) most-query-variables) (all (below (node-count s)) (s .variables)) (leb (length (config-words s)) (part-words * limit)) (all small-word (config-words s)) (ltb (s .config .next) two-bytes)
 
     there : Tests limit s → Fits limit s
     there t =
@@ -94,7 +94,7 @@ fits-says limit s = (λ t. there (tests .0 t), λ F. tests .1 (back F))
           lower = t .1;
           apart = t .2;
           rules = leb→le (length (rules-words s)) most-program-words (t .3);
-          together = leb→le (node-count s + length (rules-words s)) most-rules (t .4);
+          together = leb→le (node-count s + length (rules-words s)) most-together (t .4);
           rules-small = t .5;
           variables = leb→le (length (s .variables)) most-query-variables (t .6);
           known = t .7;
@@ -109,7 +109,7 @@ fits-says limit s = (λ t. there (tests .0 t), λ F. tests .1 (back F))
       F .lower,
       F .apart,
       le→leb (length (rules-words s)) most-program-words (F .rules),
-      le→leb (node-count s + length (rules-words s)) most-rules (F .together),
+      le→leb (node-count s + length (rules-words s)) most-together (F .together),
       F .rules-small,
       le→leb (length (s .variables)) most-query-variables (F .variables),
       F .known,

@@ -1,7 +1,7 @@
 -- The bytes of a state:
 --
---   header          six numbers: 1, the count of nodes, of the program's words, of the query's variables, of the configuration's
---                   words, and the next fresh number
+--   header          six numbers: the form, the counts of nodes, of the program's words, of the query's variables and of the
+--                   configuration's words, and the next fresh number
 --   names           the cells of the nodes, the root's 0 first
 --   program         its words (layout: Layout)
 --   variables       the numbers of the names of the query's variables
@@ -11,7 +11,7 @@
 -- where the variables begin; variables and configuration have their lengths, with zeros behind what is used.
 -- Assumes nothing.
 use mathlib.Core.List.{List, [], _∷_, _++_}
-use Prim.Native.Nat.{ℕ, suc, _-_, _/_, _%_}
+use Prim.Native.Nat.{ℕ, _-_, _/_, _%_}
 use lib.ListN.{length, replicate}
 use Rattle.layout.specs.Layout.{program-words}
 use Rattle.mem_words.specs.declared.Word.{Word}

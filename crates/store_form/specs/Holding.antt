@@ -16,7 +16,7 @@ use Rattle.mem_words.specs.declared.Word.{Word}
 use Rattle.mem_words.specs.Words.{words, valueOf}
 use Rattle.read_nodes.specs.Spell.{named}
 use Rattle.store_words.specs.Reading.{read-node}
-use Rattle.store_form.specs.Sizes.{most-nodes, most-program-words, most-rules, part-words, two-bytes, header-length, program-start, variables-start, config-start}
+use Rattle.store_form.specs.Sizes.{most-nodes, most-program-words, most-together, part-words, two-bytes, header-length, program-start, variables-start, config-start}
 use Rattle.store_form.specs.State.{State, node-count}
 use Rattle.store_form.specs.Form.{rules-words, config-words, store-bytes}
 
@@ -39,7 +39,7 @@ pub record Fits (limit : ℕ) (s : State) : Type 0 where
   pub lower : T (lowered 1 (s .cells))
   pub apart : T (distinct (s .cells))
   pub rules : length (rules-words s) ≤ most-program-words
-  pub together : node-count s + length (rules-words s) ≤ most-rules
+  pub together : node-count s + length (rules-words s) ≤ most-together
   pub rules-small : T (all small-word (rules-words s))
   pub variables : length (s .variables) ≤ most-query-variables
   pub known : T (all (below (node-count s)) (s .variables))
@@ -59,7 +59,7 @@ fits limit s =
     && lowered 1 (s .cells)
     && distinct (s .cells)
     && leb (length (rules-words s)) most-program-words
-    && leb (node-count s + length (rules-words s)) most-rules
+    && leb (node-count s + length (rules-words s)) most-together
     && all small-word (rules-words s)
     && leb (length (s .variables)) most-query-variables
     && all (below (node-count s)) (s .variables)

@@ -6,7 +6,7 @@ use Rattle.akl.specs.Limits.{program-bytes, query-bytes, most-query-variables}
 abbrev pub form-number : ℕ
 form-number = 2
 
--- how many numbers the header has: the form, the counts of the four regions, the next fresh number
+-- how many numbers the header has: the form, the counts of nodes, program words, variables and configuration words, the next fresh number
 abbrev pub header-numbers : ℕ
 header-numbers = 6
 
@@ -18,10 +18,10 @@ most-nodes = 9 + program-bytes + query-bytes
 unfoldable pub most-program-words : ℕ
 most-program-words = 5 * program-bytes / 2
 
--- both together: five words come from a name and the mark behind it, and no mark makes a node; so at most three for a byte of the
--- program's text, as in `p,q,r`, and a node for each byte of the query's
-unfoldable pub most-rules : ℕ
-most-rules = 9 + query-bytes + 3 * program-bytes
+-- both together: five words come from a name and the mark behind it, and no mark makes a node; so nine nodes, one for each byte of
+-- the query's text, and at most three nodes and words for a byte of the program's, as in `p,q,r`
+unfoldable pub most-together : ℕ
+most-together = 9 + query-bytes + 3 * program-bytes
 
 -- words of a configuration for each part: a member that is an atom with 8 arguments has as many
 abbrev pub part-words : ℕ
@@ -37,7 +37,7 @@ header-length = 3 * header-numbers
 
 -- what n nodes leave to the program of the region that it shares with the names
 unfoldable pub program-length : ℕ → ℕ
-program-length n = 3 * (most-rules - n)
+program-length n = 3 * (most-together - n)
 
 unfoldable pub variables-length : ℕ
 variables-length = 3 * most-query-variables
@@ -50,7 +50,7 @@ unfoldable pub program-start : ℕ → ℕ
 program-start n = header-length + 3 * n
 
 unfoldable pub variables-start : ℕ
-variables-start = header-length + 3 * most-rules
+variables-start = header-length + 3 * most-together
 
 unfoldable pub config-start : ℕ
 config-start = variables-start + variables-length

@@ -22,7 +22,7 @@ use Rattle.solve_classes.specs.Means.{OldIn}
 use Rattle.solve_tells.specs.Reach.{varsOf}
 use Rattle.solve_tells.specs.Draws.{Drawn}
 use Rattle.solve_tells.proofs.Rooms.{old-drawn}
-use Rattle.store_form.specs.Sizes.{most-nodes, most-program-words, most-rules}
+use Rattle.store_form.specs.Sizes.{most-nodes, most-program-words, most-together}
 use Rattle.store_form.specs.State.{State, number-from, number-in, well-formed-state}
 use Rattle.store_form.specs.Form.{rules-words, config-words}
 use Rattle.store_form.specs.Holding.{lowered, small-word, fits}
@@ -86,7 +86,7 @@ unfolding everything wide wide-state named spell
 wide-formed = tt
 
 wide-fits : T (fits 2048 wide-state)
-unfolding everything wide wide-state named spell fits lowered small-word most-nodes most-program-words most-rules rules-words config-words number-in number-from program-words node-words local-words store-words stmt-words con-words vars-words var-word ask box-kind
+unfolding everything wide wide-state named spell fits lowered small-word most-nodes most-program-words most-together rules-words config-words number-in number-from program-words node-words local-words store-words stmt-words con-words vars-words var-word ask box-kind
 wide-fits = tt
 
 wide-vars : varsOf (config-words wide-state) ≡ range 0 2736 ++ (0 ∷ [])

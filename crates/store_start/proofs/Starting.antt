@@ -32,7 +32,7 @@ use Rattle.store_words.proofs.Places.{stmt-front}
 use Rattle.store_words.proofs.Sizes.{size-length}
 use Rattle.store_texts.proofs.Programs.{program-words-few, names-and-words-few}
 use Rattle.store_texts.proofs.Queries.{query-short}
-use Rattle.store_form.specs.Sizes.{most-program-words, most-rules}
+use Rattle.store_form.specs.Sizes.{most-program-words, most-together}
 use Rattle.store_form.specs.State.{State, table, node-count, number-in, names-of, well-formed-state}
 use Rattle.store_form.specs.Form.{rules-words, config-words}
 use Rattle.store_form.specs.Holding.{below, Fits}
@@ -110,8 +110,8 @@ module _ (text query N : List ℕ) (R : List Word) (Q : List ℕ) (G : List Word
   unfolding rules-words
   rules-few = let f = program-words-few text P (left .reads-program) num in enough-words (length (program-words num P)) (length text) (f .0) (f .1)
 
-  pub rules-together : node-count s + length (rules-words s) ≤ most-rules
-  unfolding rules-words most-rules
+  pub rules-together : node-count s + length (rules-words s) ≤ most-together
+  unfolding rules-words most-together
   rules-together =
       let k = cells-count N m (left .root) (left .nodes) (left .parents) (left .apart) in
       let f = names-and-words-few text P (left .reads-program) num m (9 + length query) (λ ts e. omega (arith, left .few ts e)) in

@@ -33,7 +33,7 @@ pub record Left (text query N : List ℕ) (R : List Word) (Q : List ℕ) (G : Li
   pub root : 1 ≤ m
   pub nodes : m ≤ length N
   pub names : length N ≤ most-nodes
-  -- as the reader says (read_inputs: Inputs)
+  -- nine nodes at first, and at most one for each byte of the texts, one less for each mark of the program
   pub few : (ts : List Token) → tokens text ≡ some ts → m + marks ts ≤ 9 + length text + length query
   -- a parent is lower; numbers of names below m and names are one-to-one
   pub parents : Lower N m

@@ -10,7 +10,7 @@ use Rattle.akl.specs.Answers.{final, state}
 use Rattle.layout.specs.Layout.{var-word, vars-words, ask, con-words, stmt-words, program-words}
 use Rattle.read_nodes.specs.Spell.{spell, named}
 use Rattle.store_words.specs.Boxes.{local-words, store-words, node-words}
-use Rattle.store_form.specs.Sizes.{most-nodes, most-program-words, most-rules}
+use Rattle.store_form.specs.Sizes.{most-nodes, most-program-words, most-together}
 use Rattle.store_form.specs.State.{State, number-from, number-in}
 use Rattle.store_form.specs.Form.{rules-words, config-words}
 use Rattle.store_form.specs.Holding.{lowered, small-word, fits}
@@ -29,7 +29,7 @@ after ks = states-after most-parts record-state 0 ks
 
 -- it has bytes and is well formed
 pub record-stands : Stands most-parts record-state
-unfolding everything record-state named spell fits lowered small-word most-nodes most-program-words most-rules rules-words config-words number-in number-from program-words node-words local-words store-words stmt-words con-words vars-words var-word ask
+unfolding everything record-state named spell fits lowered small-word most-nodes most-program-words most-together rules-words config-words number-in number-from program-words node-words local-words store-words stmt-words con-words vars-words var-word ask
 record-stands = record { fits = fits-says _ record-state .0 tt; formed = tt }
 
 -- all are accepted, and the state is final

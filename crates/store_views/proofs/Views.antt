@@ -10,7 +10,7 @@ use lib.Seq.{take-append-le, drop-append-le}
 use Rattle.mem_numbers.specs.Numbers.{triples}
 use Rattle.mem_words.specs.Words.{words}
 use Rattle.mem_parts.specs.Parts.{cut}
-use Rattle.store_form.specs.Sizes.{most-rules, header-length, config-length, program-start, store-length}
+use Rattle.store_form.specs.Sizes.{most-together, header-length, config-length, program-start, store-length}
 use Rattle.store_form.specs.State.{State, node-count}
 use Rattle.store_form.specs.Form.{rules-words, config-words, header, store-bytes}
 use Rattle.store_form.specs.Holding.{Fits, piece}
@@ -30,8 +30,8 @@ piece-front : (o k : ℕ) (x r : List ℕ) → o + 3 * k ≤ length x → piece 
 unfolding piece
 piece-front o k x r h = ap (take (3 * k)) (drop-append-le o x r (omega arith)) ∙ take-append-le (3 * k) (drop o x) r (omega (arith, length-drop o x))
 
-few-rules : most-rules ≤ 53257
-unfolding most-rules
+few-rules : most-together ≤ 53257
+unfolding most-together
 few-rules = omega arith
 
 -- where the configuration's region ends

@@ -1,4 +1,4 @@
-// The counts in a store's header: where the program begins, how many words it and the configuration have, and the next fresh number.
+// What a store's header says: where the program begins, how many words it and the configuration have, and the next fresh number.
 ghost use mathlib.Core.Path.{_≡_};
 ghost use Prim.Native.Nat.{_+_, _*_, _≤_, _<_};
 ghost use lib.ListN.{length};

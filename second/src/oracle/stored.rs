@@ -71,9 +71,9 @@ pub fn state(bytes: &[u8]) -> Read<State> {
     let [form, nodes, rules, variables, goals, next] = header[..] else {
         return Err(No::Formed);
     };
+    demand(nodes <= 20_489 && rules <= 40_960 && nodes + rules <= 53_257)?;
     small(nodes < 200 && rules < 3_000 && goals < 3_000)?;
     demand(form == 2 && nodes > 0)?;
-    demand(nodes <= 20_489 && rules <= 40_960)?;
     // The program's words stand right behind the names.
     let mut cells = region(&mut rest, 53_257, nodes + rules)?;
     let rules = words(&cells.split_off(nodes));

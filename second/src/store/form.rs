@@ -13,16 +13,17 @@ const HEADER: usize = 6;
 /// The root, four nodes each for `true` and `fail`, one for each byte of texts.
 pub const NODES: usize = 9 + PROGRAM_BYTES + QUERY_BYTES;
 pub const PROGRAM_WORDS: usize = 5 * PROGRAM_BYTES / 2;
-/// Nodes and words of a program together: one byte of a name and the mark behind
-/// it make a node and five words.
-pub const RULES: usize = 9 + QUERY_BYTES + 3 * PROGRAM_BYTES;
+/// Nodes and words of a program together: nine nodes, one for each byte of the
+/// query, and three of both for a byte of the program, as in `p,`, which makes a
+/// node and five words.
+pub const TOGETHER: usize = 9 + QUERY_BYTES + 3 * PROGRAM_BYTES;
 pub const CONFIG_WORDS: usize = 14 * PARTS;
 
 /// The most nodes, words of a program, variables and words of a configuration.
 pub const MOST: [usize; 4] = [NODES, PROGRAM_WORDS, QUERY_VARIABLES, CONFIG_WORDS];
 /// Where names, variables and configuration begin in bytes.
 const NAMES_START: usize = 3 * HEADER;
-const VARIABLES_START: usize = NAMES_START + 3 * RULES;
+const VARIABLES_START: usize = NAMES_START + 3 * TOGETHER;
 const CONFIG_START: usize = VARIABLES_START + 3 * QUERY_VARIABLES;
 /// The documented length of a store.
 pub const LENGTH: usize = CONFIG_START + 3 * CONFIG_WORDS;
@@ -62,7 +63,7 @@ pub fn set_header(bytes: &mut [u8], index: usize, value: u32) {
 /// Where names, program, variables and configuration begin and end, by the
 /// header's count of nodes.
 pub fn region(bytes: &[u8], index: usize) -> std::ops::Range<usize> {
-    let nodes = (header(bytes, 1) as usize).min(RULES);
+    let nodes = (header(bytes, 1) as usize).min(TOGETHER);
     let program = NAMES_START + 3 * nodes;
     let starts = [NAMES_START, program, VARIABLES_START, CONFIG_START, LENGTH];
     starts[index]..starts[index + 1]
@@ -120,10 +121,10 @@ impl Raw {
         ];
         // Behind the names the program begins, so that nothing is unused there.
         let unused = [
-            Fault::NodesCount,
-            Fault::UnusedProgram,
-            Fault::UnusedVariables,
-            Fault::UnusedConfig,
+            None,
+            Some(Fault::UnusedProgram),
+            Some(Fault::UnusedVariables),
+            Some(Fault::UnusedConfig),
         ];
         for index in 0..4 {
             let count = header(bytes, index + 1) as usize;
@@ -138,7 +139,9 @@ impl Raw {
                 continue;
             }
             let (used, rest) = region.split_at(3 * count);
-            faults.note_if(!zero(rest), unused[index]);
+            if let (false, Some(fault)) = (zero(rest), unused[index]) {
+                faults.note(fault);
+            }
             let numbers = used.chunks_exact(3).map(number);
             let words = used.chunks_exact(3).map(Word::of_bytes);
             match index {

@@ -16,12 +16,15 @@ pub fn spoil_bytes(random: &mut Random, bytes: &mut [u8]) -> &'static str {
             "a byte of the header"
         }
         1 => {
-            let room = MOST[index] as u32;
+            let most = MOST[index] as u32;
+            let room = region.len() as u32 / 3;
             let count = count as u32;
             let values = [
                 0,
                 count + 1,
                 count.wrapping_sub(1),
+                most,
+                most + 1,
                 room,
                 room + 1,
                 0xff_ffff,

@@ -2,7 +2,7 @@
 
 use super::{Patient, Side};
 use crate::limits::{ARGUMENTS, DEFINITIONS, QUERY_VARIABLES};
-use crate::store::form::{NODES, PROGRAM_WORDS, RULES};
+use crate::store::form::{NODES, PROGRAM_WORDS, TOGETHER};
 use crate::store::tree::Definition;
 use crate::words::*;
 
@@ -72,11 +72,19 @@ pub fn program_words(patient: &mut Patient) -> Option<()> {
 
 /// As many nodes and words of a program together as may be, or one more.
 pub fn names_and_program(patient: &mut Patient) -> Option<()> {
-    fill_program(patient, PROGRAM_WORDS)?;
-    let there = patient.raw.cells.len() + PROGRAM_WORDS;
-    let count = patient.limit(RULES).checked_sub(there)?;
-    add_nodes(patient, count);
-    Some(())
+    let most = patient.limit(TOGETHER);
+    if patient.random.once_in(2) {
+        fill_program(patient, PROGRAM_WORDS)?;
+        let there = patient.raw.cells.len() + PROGRAM_WORDS;
+        add_nodes(patient, most.checked_sub(there)?);
+        return Some(());
+    }
+    // The definition's own names come first.
+    patient.node(b"true");
+    patient.node(b"n_9Z");
+    let there = patient.raw.cells.len();
+    add_nodes(patient, NODES.checked_sub(there)?);
+    fill_program(patient, most - NODES)
 }
 
 /// One definition more, so that the program has as many words as are wanted.
