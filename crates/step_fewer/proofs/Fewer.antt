@@ -10,7 +10,7 @@ use Rattle.constraint.specs.Constraint.{Con, ctrue, cfail, ceq, capp}
 use Rattle.akl.specs.Base.{size, range}
 use Rattle.akl.specs.Syntax.{Var, Stmt, atom, call, comp, hide, choice, Clauses, no-more, clause, Program, opened, opened-clauses}
 use Rattle.akl.specs.Configuration.{Kind, Node, or, and, stmt, choice-box, guard, Nodes, nil, cons, _+n_, one, failure, Ctx, top, in-or, in-and, in-choice, in-guard, plug, Config}
-use Rattle.akl.specs.Places.{Place}
+use Rattle.akl.specs.Places.{Place, at}
 use Rattle.akl.specs.Table.{Row, rule-row}
 use Rattle.akl.specs.Rules.{stored, fresh, effect}
 use Rattle.akl.specs.Stability.{fits-row}
@@ -19,7 +19,7 @@ use Rattle.theory.specs.Transition.{Transition, constraint-atom, program-atom, 
 use Rattle.theory.proofs.Locals.{size-append}
 use Rattle.accept.proofs.Stable.{transition-whole}
 use Rattle.accept.proofs.EffectSound.{whole, effect-sound}
-use Rattle.step_fewer.specs.Adding.{adds-parts}
+use Rattle.step_fewer.specs.Adding.{adds-parts, itself}
 
 -- parts of nodes side by side
 joined : {k : Kind} (a b : Nodes k) → parts-all (a +n b) ≡ parts-all a + parts-all b
@@ -88,3 +88,39 @@ pub effect-fewer : (P : Program) (N r : ℕ) (pl : Place) (w : Row) (d : Config)
 effect-fewer P N r pl w d q k e a =
     let f = effect-sound P N r pl w d q k e in
     omega (arith, around (f .context) (f .before) (f .after) (fewer (f .transition) a), ap parts (f .result), ap parts (transition-whole (f .transition)))
+
+-- ---------------------------------------------------------------------------------------------
+-- Rules that put a piece for what stands at their place.
+
+clash-back : false ≡ true → ⊥
+clash-back e = let z : _≡_ {A = ℕ} 0 1 = cc in omega arith
+
+pub rewrites-itself : {P : Program} {N r : ℕ} {pl : Place} {k : Kind} {χ : Ctx k} {n n′ : Node k} {N′ : ℕ} → Transition P N r pl k χ n n′ N′ → itself r ≡ true → pl ≡ at χ n
+unfolding itself
+rewrites-itself (constraint-atom χ vs σ l r c) e = absurd (clash-back e)
+rewrites-itself (program-atom χ p xs b d) e = refl
+rewrites-itself (composition χ vs σ l r a b) e = absurd (clash-back e)
+rewrites-itself (hiding χ vs σ l r n a) e = absurd (clash-back e)
+rewrites-itself (choosing χ op cs) e = refl
+rewrites-itself (promotion χ ws θ l r op vs σ b q) e = absurd (clash-back e)
+rewrites-itself (condition χ l r vs σ b q m) e = absurd (clash-back e)
+rewrites-itself (committing χ l r vs σ b q m) e = absurd (clash-back e)
+rewrites-itself (environment-failure χ vs σ ms u) e = absurd (clash-back e)
+rewrites-itself (goal-failure χ vs σ l r op) e = absurd (clash-back e)
+rewrites-itself (guard-failure χ op l r b) e = absurd (clash-back e)
+rewrites-itself (splitting χ vs σ l r us τ b t ts) e = absurd (clash-back e)
+rewrites-itself (distribution χ op l r g gs b) e = absurd (clash-back e)
+rewrites-itself (flattening χ l r ns) e = absurd (clash-back e)
+
+-- d more parts inside are at most d more outside
+pub around-more : {k : Kind} (χ : Ctx k) (n n′ : Node k) (d : ℕ) → parts n′ ≤ parts n + d → parts (plug χ n′) ≤ parts (plug χ n) + d
+unfolding plug parts
+around-more top n n′ d h = h
+around-more (in-or χ l r) n n′ d h = around-more χ (or (l +n cons n r)) (or (l +n cons n′ r)) d (omega (arith, joined l (cons n r), joined l (cons n′ r)))
+around-more (in-and χ vs σ l r) n n′ d h = around-more χ (and vs σ (l +n cons n r)) (and vs σ (l +n cons n′ r)) d (omega (arith, joined l (cons n r), joined l (cons n′ r)))
+around-more (in-choice χ op l r) n n′ d h = around-more χ (choice-box op (l +n cons n r)) (choice-box op (l +n cons n′ r)) d (omega (arith, joined l (cons n r), joined l (cons n′ r)))
+around-more (in-guard χ b) n n′ d h = around-more χ (guard n b) (guard n′ b) d (omega arith)
+
+-- So whatever a transition puts, at most its parts are added.
+pub piece-more : {P : Program} {N r : ℕ} {pl : Place} {k : Kind} {χ : Ctx k} {n n′ : Node k} {N′ : ℕ} → Transition P N r pl k χ n n′ N′ → parts (plug χ n′) ≤ parts (whole pl) + parts n′
+piece-more {χ = χ} {n = n} {n′ = n′} t = omega (arith, around-more χ n n′ (parts n′) (omega arith), ap parts (transition-whole t))

@@ -16,3 +16,14 @@ adds-at r j a e = sym (ap adds-parts e ∙ a)
 pub adds-none : (r : ℕ) → (r ≡ 2 → ⊥) → (r ≡ 5 → ⊥) → (r ≡ 12 → ⊥) → (r ≡ 13 → ⊥) → false ≡ adds-parts r
 unfolding adds-parts
 adds-none r a b c d = sym (ap₂ _||_ (ap₂ _||_ (ap₂ _||_ (ne-eqb r 2 a) (ne-eqb r 5 b)) (ne-eqb r 12 c)) (ne-eqb r 13 d))
+
+-- Of these, the rules that rewrite what stands at the place itself; 12 and 13 rewrite the box around it.
+unfoldable pub itself : ℕ → Bool
+itself n = eqb n 2 || eqb n 5
+
+pub itself-at : (n j : ℕ) → itself j ≡ true → n ≡ j → true ≡ itself n
+itself-at n j a e = sym (ap itself e ∙ a)
+
+pub itself-none : (n : ℕ) → (n ≡ 2 → ⊥) → (n ≡ 5 → ⊥) → false ≡ itself n
+unfolding itself
+itself-none n a b = sym (ap₂ _||_ (ne-eqb n 2 a) (ne-eqb n 5 b))

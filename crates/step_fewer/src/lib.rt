@@ -1,6 +1,6 @@
 // Whether a rule can lead to a configuration with more parts.
 ghost use mathlib.Core.Path.{_≡_};
-ghost use Rattle.step_fewer.specs.Adding.{adds-parts};
+ghost use Rattle.step_fewer.specs.Adding.{adds-parts, itself};
 
 // Whether rule `r` is one of those that can add parts.
 pub fn adds(r: usize) -> bool
@@ -17,6 +17,19 @@ pub fn adds(r: usize) -> bool
     }
     if r == 13 {
         return true; // copies of a body
+    }
+    false
+}
+
+// Whether the rule is one of those that put a larger piece for what stands at its place, and change nothing around it.
+pub fn at_itself(rule: usize) -> bool
+    ensures { λ b. ⌜ b ≡ itself rule ⌝ }
+{
+    if rule == 2 {
+        return true; // the body for the atom
+    }
+    if rule == 5 {
+        return true; // the choice-box for the choice
     }
     false
 }
