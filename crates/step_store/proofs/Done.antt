@@ -1,7 +1,7 @@
 -- A step on bytes that hold a state, from what the functions on its words hand back: the refusals 10 to 13, 14 before anything is
 -- built, and what settling the built words leaves. Assumes nothing.
 use mathlib.Core.Path.{_≡_, refl, ap, sym, _∙_}
-use mathlib.Core.Bool.{Bool, false}
+use mathlib.Core.Bool.{Bool}
 use mathlib.Core.List.{List}
 use mathlib.Core.Option.{some}
 use Prim.Native.Nat.{ℕ, zero, suc, _+_, _*_, _<_, _≤_}
@@ -16,35 +16,32 @@ use Rattle.akl.specs.StepsText.{Step}
 use Rattle.akl.specs.Configuration.{Config}
 use Rattle.akl.specs.Parts.{parts}
 use Rattle.akl.specs.Step.{step, within-limits}
-use Rattle.theory.specs.Formed.{Formed}
-use Rattle.theory.proofs.Reflect.{formed-iff}
 use Rattle.accept.proofs.Accepted.{limits-iff}
 use Rattle.runs.specs.Outcomes.{refusal}
 use Rattle.mem_words.specs.declared.Word.{Word}
 use Rattle.mem_words.specs.Words.{words}
 use Rattle.mem_parts.specs.Parts.{cut}
 use Rattle.check_held.specs.Checks.{nodes-in, rules-in, words-in, next-in}
-use Rattle.store_form.specs.State.{State, program-of, names-of, config-of}
+use Rattle.store_form.specs.State.{State, program-of, config-of}
 use Rattle.store_form.specs.Form.{config-words}
 use Rattle.store_form.proofs.Keeping.{with-config}
 use Rattle.store_steps.specs.After.{state-after}
 use Rattle.store_steps.proofs.Keeping.{after-refused, after-accepted, step-stands}
-use Rattle.store_calls.specs.Outcomes.{called, held, step-done}
+use Rattle.store_calls.specs.Outcomes.{called, held, put-state, step-done}
 use Rattle.store_calls.proofs.Any.{held-stands}
 use Rattle.store_views.proofs.Views.{held-begins, config-there, program-there, next-told}
 use Rattle.store_parts.specs.declared.Among.the-variants.{Others}
 use Rattle.store_parts.specs.Counting.{parts-in}
 use Rattle.store_commit.specs.Settled.{Settled, number-over, words-over, parts-over, written}
 use Rattle.store_commit.proofs.Parts.{config-parts}
+use Rattle.store_commit.specs.Committed.{Committed}
 use Rattle.store_commit.proofs.Words.{committed-held}
+use Rattle.store_commit.proofs.Settling.{leaves-held}
 use Rattle.rule_build.specs.Built.{Built}
 use Rattle.rule_hidden.specs.Counting.{Capped}
 use Rattle.rule_rewrite.specs.Rewriting.{effect-words, fresh-words}
 use Rattle.step_meant.specs.Meant.{Meant}
 use Rattle.step_meant.specs.Deciding.{Refuses, Goes, outcome-of, StepDone}
-use Rattle.step_fewer.specs.Adding.{adds-parts}
-use Rattle.step_fewer.proofs.Fewer.{effect-fewer}
-use Rattle.step_store.proofs.Whole.{place-is}
 use Rattle.step_store.proofs.Next.{next-is}
 
 -- what is read of a store: the words of its configuration and of its program, and its next fresh number
@@ -121,11 +118,11 @@ module _ (b : List ℕ) (W D : List Word) (next : ℕ) (v : Viewed b W D next) (
         go (no p) = c .small (omega arith)
 
     module _ (h : next + f ≤ 65535) (n : ℕ) (S : List ℕ) (t : Built 28672 (effect-words W D (k .rule) i next) n (words S)) where
-      abbrev X : List Word
+      abbrev pub X : List Word
       X = effect-words W D (k .rule) i next
 
       -- the state with the next configuration
-      abbrev then : (s : State) → held most-parts b ≡ some s → State
+      abbrev pub then : (s : State) → held most-parts b ≡ some s → State
       then s e = with-config s (g s (v .meant s e) .after)
 
       words-next : (s : State) (e : held most-parts b ≡ some s) → X ≡ config-words (then s e)
@@ -135,24 +132,15 @@ module _ (b : List ℕ) (W D : List Word) (next : ℕ) (v : Viewed b W D next) (
       next-low s e = number-next s e ∙ ap (λ (x : ℕ). next + x) (sym (counted h))
 
       -- words that have room were built
-      room : n ≤ 28672 → (n ≡ length X) × (take n (words S) ≡ X)
+      pub room : n ≤ 28672 → (n ≡ length X) × (take n (words S) ≡ X)
       room l = t .whole (go (decLt 28672 (length X)))
         where
           go : Dec (28672 < length X) → length X ≤ 28672
           go (yes p) = absurd (omega (arith, l, t .over p))
           go (no p) = omega arith
 
-      parts-next : (s : State) (e : held most-parts b ≡ some s) → n ≤ 28672 → parts-in Others (take n (words S)) ≡ parts (g s (v .meant s e) .after .root)
+      pub parts-next : (s : State) (e : held most-parts b ≡ some s) → n ≤ 28672 → parts-in Others (take n (words S)) ≡ parts (g s (v .meant s e) .after .root)
       parts-next s e l = ap (parts-in Others) (room l .1 ∙ words-next s e) ∙ config-parts (then s e)
-
-      -- a rule that adds no parts leaves at most as many as the limit, which the state before it was within
-      pub fit-next : (s : State) → held most-parts b ≡ some s → adds-parts (k .rule) ≡ false → n ≤ 28672 → parts-in Others (take n (words S)) ≤ most-parts
-      fit-next s e a l =
-          let m = v .meant s e in
-          let R = g s m in
-          let h : Formed most-parts (program-of s) (names-of s) (config-of s) = formed-iff most-parts (program-of s) (names-of s) (config-of s) .0 (m .stands .formed) in
-          let q = effect-fewer (program-of s) (s .config .next) (k .rule) (R .at-place) (R .takes .row) (R .after) (R .takes .is-row) (R .takes .fits) (R .leads) a in
-          omega (arith, parts-next s e l, q, ap parts (place-is W D s m (R .at-place) i (R .takes .stands)), h .fit)
 
       -- more words than so few parts have
       parts-many : (s : State) (e : held most-parts b ≡ some s) → 28672 < n → most-parts < parts (g s (v .meant s e) .after .root)
@@ -165,6 +153,17 @@ module _ (b : List ℕ) (W D : List Word) (next : ℕ) (v : Viewed b W D next) (
               let w = step-stands most-parts (omega arith) s (v .meant s e .stands) k (R .after) (R .limits ∙ within (R .after) (omega (arith, h, next-low s e)) (omega arith)) in
               let q : length X ≤ 28672 = omega (arith, w .fits .words, ap length (words-next s e)) in
               absurd (omega (arith, l, q, t .whole q .0))
+
+      -- what is written is the state that the step leads to
+      accepted-there : n ≤ 28672 → parts-in Others (take n (words S)) ≤ most-parts → (s : State) (e : held most-parts b ≡ some s) → state-after most-parts s k ≡ ok (then s e)
+      accepted-there m p s e =
+          let R = g s (v .meant s e) in
+          after-accepted most-parts s k (then s e) .1 (R .after, R .limits ∙ within (R .after) (omega (arith, h, next-low s e)) (omega (arith, p, parts-next s e m)), refl)
+
+      written-there : (B : List ℕ) → n ≤ 28672 → Committed b S n (next + f) B → (s : State) (e : held most-parts b ≡ some s) → B ≡ put-state most-parts b (then s e)
+      written-there B m y s e =
+          let r = room m in
+          committed-held s (g s (v .meant s e) .after) b S B n (next + f) e y (r .1 ∙ words-next s e) (r .0 ∙ ap length (words-next s e)) (sym (next-low s e))
 
       pub settled-done : (B : List ℕ) (x : ℕ) → Settled b S n (next + f) B x → StepDone b k x B
       settled-done B x (number-over l y) = absurd (omega arith)
@@ -179,10 +178,12 @@ module _ (b : List ℕ) (W D : List Word) (next : ℕ) (v : Viewed b W D next) (
             refusing b s k 15 (omega arith) (R .limits ∙ too-many (R .after) (omega (arith, h, next-low s e)) (omega (arith, p, parts-next s e m))) ∙ ap (called (refusal 15)) (sym y);
       }
       settled-done B x (written l m p y) = record {
-        right = λ s e.
-            let R = g s (v .meant s e) in
-            let o = R .limits ∙ within (R .after) (omega (arith, h, next-low s e)) (omega (arith, p, parts-next s e m)) in
-            let r = room m in
-            ap (step-done most-parts b) (after-accepted most-parts s k (then s e) .1 (R .after, o, refl))
-            ∙ ap (called (outcome-of 0)) (sym (committed-held s (R .after) b S B n (next + f) e y (r .1 ∙ words-next s e) (r .0 ∙ ap length (words-next s e)) (sym (next-low s e))));
+        right = λ s e. ap (step-done most-parts b) (accepted-there m p s e) ∙ ap (called (outcome-of 0)) (sym (written-there B m y s e));
       }
+
+      -- and so the store holds it
+      pub settled-held : (B : List ℕ) (x : ℕ) → x ≡ 0 → Settled b S n (next + f) B x → (s : State) (e : held most-parts b ≡ some s) → (held most-parts B ≡ some (then s e)) × (n ≤ 28672)
+      settled-held B x z (number-over l y) s e = absurd (omega arith)
+      settled-held B x z (words-over l m y) s e = absurd (omega arith)
+      settled-held B x z (parts-over l m p y) s e = absurd (omega arith)
+      settled-held B x z (written l m p y) s e = (ap (held most-parts) (written-there B m y s e) ∙ leaves-held s (then s e) k b e (accepted-there m p s e), m)

@@ -1,4 +1,6 @@
 pub mod Whole
 pub mod Next
+pub mod Piece
 pub mod Done
+pub mod Bounded
 pub mod Regions

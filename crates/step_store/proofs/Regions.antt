@@ -1,6 +1,5 @@
 -- The regions of a store that holds a state: they lie within it, and their words are those of the state. Assumes nothing.
 use mathlib.Core.Path.{_≡_, refl, ap, sym, _∙_, subst}
-use mathlib.Core.Bool.{Bool}
 use mathlib.Core.List.{List, [], _∷_}
 use mathlib.Core.Option.{Option, some, none}
 use Prim.Native.Nat.{ℕ, zero, suc, _+_, _-_, _*_, _<_, _≤_}
@@ -19,18 +18,20 @@ use Rattle.akl.specs.StepsText.{Step}
 use Rattle.mem_words.specs.declared.Word.{Word}
 use Rattle.mem_words.specs.Words.{words, length-words}
 use Rattle.mem_parts.specs.Parts.{cut, cut-put, length-cut}
-use Rattle.store_commit.specs.Settled.{CanSettle}
+use Rattle.store_commit.specs.Settled.{CanSettle, Settled, Written}
 use Rattle.rule_build.specs.Built.{Built}
 use Rattle.rule_hidden.specs.Counting.{Capped}
 use Rattle.rule_rewrite.specs.Rewriting.{effect-words, fresh-words}
-use Rattle.step_fewer.specs.Adding.{adds-parts}
+use Rattle.step_parts.specs.Bounds.{CanBound, Bound}
 use Rattle.step_meant.specs.Deciding.{step-of, Refuses, Goes, HoldsState}
 use Rattle.step_decide.specs.Decided.{CanDecide, Decided}
 use Rattle.step_decide.specs.declared.Decision.{Decision}
 use Rattle.step_decide.specs.declared.Decision.the-variants.{No, At}
 use Rattle.step_decide.proofs.Places.{stands-within}
 use Rattle.step_store.specs.Regions.{config-part, program-part, Counts, CanRewrite, WasBuilt}
-use Rattle.step_store.proofs.Done.{Viewed, viewed, counted, fit-next}
+use Rattle.step_store.specs.Bounds.{AtMost, Carried}
+use Rattle.step_store.proofs.Done.{Viewed, viewed, counted}
+use Rattle.step_store.proofs.Bounded.{can-bound, bound-fits, carried}
 
 pub counts : (b : List ℕ) (n m : ℕ) → 245853 ≤ length b → HoldsState b → n ≡ words-in b → m ≡ rules-in b → Counts b n m
 counts b n m l h e f = record { long = l; held = h; config = e; rules = f }
@@ -105,15 +106,28 @@ module _ {b : List ℕ} {n m : ℕ} (c : Counts b n m) (r p a i : ℕ) (g : Goes
       let R = g (q .state) (q .meant) in
       omega (arith, stands-within (q .state) (config-part b n) (R .at-place) i (R .takes .stands))
 
-  pub can-settle : (next f : ℕ) → next ≡ next-in b → Capped (fresh-words (config-part b n) r i) f → next + f ≤ 65535
-      → (x : ℕ) (w : List ℕ) → 524288 ≤ length w → WasBuilt b n m next r i x w → (adds : Bool) → adds ≡ adds-parts r → CanSettle b (cut 401408 487424 w) x n adds
-  can-settle next f e k h x w l t adds ea = record {
-    store = c .long;
-    room = omega (arith, length-cut 401408 487424 w (omega arith));
-    few-old = omega (arith, config-fits c);
-    zeros = config-zeros c;
-    fit = λ no-more few. fit-next b (config-part b n) (program-part b m) next (parts-viewed c next e) (step-of r p a) i f g k h x (cut 401408 487424 w) (t .built) (c .held .state) (c .held .holds) (sym ea ∙ no-more) few;
-  }
+  module _ (next f : ℕ) (e : next ≡ next-in b) (k : Capped (fresh-words (config-part b n) r i) f) (h : next + f ≤ 65535) (x : ℕ) (w : List ℕ) (l : 524288 ≤ length w) (t : WasBuilt b n m next r i x w) (u : ℕ) where
+    -- where the next configuration was built
+    abbrev S : List ℕ
+    S = cut 401408 487424 w
+
+    room : 86016 ≤ length S
+    room = omega (arith, length-cut 401408 487424 w (omega arith))
+
+    pub can-bound-it : u ≤ 2048 → CanBound S x u r i
+    can-bound-it few = can-bound b (config-part b n) (program-part b m) next (parts-viewed c next e) (step-of r p a) i f g k h x S (t .built) (c .held) u few room
+
+    pub can-settle : AtMost b u → (q : ℕ) → Bound S x u r i q → CanSettle b S x n q
+    can-settle most q d = record {
+      store = c .long;
+      room = room;
+      few-old = omega (arith, config-fits c);
+      zeros = config-zeros c;
+      fit = λ y z. bound-fits b (config-part b n) (program-part b m) next (parts-viewed c next e) (step-of r p a) i f g k h x S (t .built) (c .held) u q most d y z;
+    }
+
+    pub settled-carried : (B : List ℕ) (y q : ℕ) → Settled b S x (next + f) B y → Written S x y q → Carried B y q
+    settled-carried B y q s d = carried b (config-part b n) (program-part b m) next (parts-viewed c next e) (step-of r p a) i f g k h x S (t .built) (c .held) B y q s d
 
   pub can-rewrite : (next f : ℕ) → next ≡ next-in b → Capped (fresh-words (config-part b n) r i) f → next + f ≤ 65535 → CanRewrite (config-part b n) r i next
   can-rewrite next f e k h =

@@ -3,16 +3,19 @@ ghost use Prim.Native.Nat.{_+_, _*_, _≤_};
 ghost use lib.ListN.{length};
 ghost use Rattle.mem_words.specs.Words.{words};
 ghost use Rattle.mem_parts.specs.Parts.{cut, Outside};
-ghost use Rattle.store_commit.specs.Settled.{CanSettle, Settled};
+ghost use Rattle.store_commit.specs.Settled.{CanSettle, Settled, Written};
 ghost use Rattle.rule_build.specs.Built.{Built};
 ghost use Rattle.rule_hidden.specs.Counting.{Capped};
 ghost use Rattle.rule_rewrite.specs.Rewriting.{effect-words, fresh-words};
 ghost use Rattle.rule_solve.specs.Idle.{Idle};
 ghost use Rattle.step_meant.specs.Deciding.{step-of, StepDone, HoldsState};
 ghost use Rattle.step_decide.specs.Decided.{Decided};
+ghost use Rattle.step_parts.specs.Bounds.{CanBound, Bound};
 ghost use Rattle.step_store.specs.Regions.{config-part, program-part, Counts, CanRewrite, WasBuilt};
+ghost use Rattle.step_store.specs.Bounds.{AtMost, Carried};
 use read_steps::Place;
 use step_decide::Decision;
+use store_commit::Settlement;
 
 // What is decided of the step, on the regions of the store.
 fn decision(b: &[u8], w: &mut [u8], n: usize, m: usize, r: usize, p: Place, a: usize) -> Decision
@@ -63,6 +66,14 @@ fn build(b: &[u8], w: &mut [u8], n: usize, m: usize, next: usize, r: usize, i: u
     rewrite_in(&b[159837..e], &b[d..f], r, i, next, w, 401408, 487424)
 }
 
+// An upper bound of the parts of the `x` words that rule `r` built at `i` in the part of `w` from `lo` on up to `hi`; there were at most `u`.
+fn bound_from(w: &[u8], lo: usize, hi: usize, x: usize, u: usize, r: usize, i: usize) -> usize
+    requires { ⌜ CanBound (cut lo hi (now w)) x u r i × (lo ≤ hi) × (hi ≤ length (now w)) ⌝ }
+    ensures { λ q. ⌜ Bound (cut lo hi (now (w .entry))) x u r i q ⌝ }
+{
+    step_parts::bound(&w[lo..hi], x, u, r, i)
+}
+
 // Settles the `x` words that were built in the part of `w` from `lo` on up to `hi`, over the `n` words of the store.
 fn settle_from(
     b: &mut [u8],
@@ -72,32 +83,40 @@ fn settle_from(
     x: usize,
     next: usize,
     n: usize,
-    adds: bool,
-) -> usize
-    requires { ⌜ CanSettle (now b) (cut lo hi (now w)) x n adds × (lo ≤ hi) × (hi ≤ length (now w)) ⌝ }
-    ensures { λ y. ⌜ Settled (now (b .entry)) (cut lo hi (now (w .entry))) x next (now (b .exit)) y ⌝ }
+    most: usize,
+) -> Settlement
+    requires { ⌜ CanSettle (now b) (cut lo hi (now w)) x n most × (lo ≤ hi) × (hi ≤ length (now w)) ⌝ }
+    ensures { λ y. ⌜ Settled (now (b .entry)) (cut lo hi (now (w .entry))) x next (now (b .exit)) (y .answer) × Written (cut lo hi (now (w .entry))) x (y .answer) (y .parts) ⌝ }
 {
-    store_commit::settle(b, &w[lo..hi], x, next, n, adds)
+    store_commit::settle(b, &w[lo..hi], x, next, n, most)
 }
 
-// Rule `r` at the place `p` with the argument `a`. Answers the refusal, 10 to 15; or 0, and `b` is the store after the step.
-pub fn step(b: &mut [u8], w: &mut [u8], r: usize, p: Place, a: usize) -> usize
-    requires { ⌜ (245853 ≤ length (now b)) × Idle (now w) × HoldsState (now b) ⌝ }
-    ensures { λ x. ⌜ StepDone (now (b .entry)) (step-of r (p .0) a) x (now (b .exit)) × Idle (now (w .exit)) ⌝ }
+// What a step answers, and where it is 0 an upper bound of the parts of what it left.
+pub struct Stepped {
+    pub answer: usize,
+    pub parts: usize,
+}
+
+// Rule `r` at the place `p` with the argument `a`, on a store with at most `u` parts. Answers the refusal, 10 to 15; or 0, and `b` is the store
+// after the step.
+pub fn step(b: &mut [u8], w: &mut [u8], u: usize, r: usize, p: Place, a: usize) -> Stepped
+    requires { ⌜ (245853 ≤ length (now b)) × Idle (now w) × HoldsState (now b) × AtMost (now b) u × (u ≤ 2048) ⌝ }
+    ensures { λ x. ⌜ StepDone (now (b .entry)) (step-of r (p .0) a) (x .answer) (now (b .exit)) × Idle (now (w .exit)) × Carried (now (b .exit)) (x .answer) (x .parts) ⌝ }
 {
     let n = store_views::config_count(b);
     let m = store_views::program_count(b);
     let next = store_views::next_number(b);
     match decision(b, w, n, m, r, p, a) {
-        Decision::No(x) => x,
+        Decision::No(x) => Stepped { answer: x, parts: 0 },
         Decision::At(i) => {
             let f = fresh(b, n, r, i);
             if 65535 - next < f {
-                return 14; // too few numbers are left
+                return Stepped { answer: 14, parts: 0 }; // too few numbers are left
             }
             let x = build(b, w, n, m, next, r, i);
-            let adds = step_fewer::adds(r);
-            settle_from(b, w, 401408, 487424, x, next + f, n, adds)
+            let q = bound_from(w, 401408, 487424, x, u, r, i);
+            let s = settle_from(b, w, 401408, 487424, x, next + f, n, q);
+            Stepped { answer: s.answer, parts: s.parts }
         }
     }
 }

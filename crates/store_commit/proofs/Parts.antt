@@ -1,15 +1,11 @@
 -- The parts counted in the first words of bytes. Assumes nothing.
-use mathlib.Core.Path.{_≡_, refl, sym, ap, _∙_}
-use mathlib.Core.Bool.{true, false}
+use mathlib.Core.Path.{_≡_, refl, ap, _∙_}
 use mathlib.Core.List.{List, []}
-use Prim.Native.Nat.{ℕ, _*_, _≤_, _<_}
+use Prim.Native.Nat.{ℕ, _*_, _≤_}
 use native.Mathlib.Omega.{arith}
-use lib.Dec.{leb}
 use lib.ListN.{length, take}
 use lib.Seq.{length-take-le}
-use borrow.Author.Tests.{le-leb, lt-leb}
 use Rattle.akl.specs.Base.{Name}
-use Rattle.akl.specs.Limits.{most-parts}
 use Rattle.akl.specs.Configuration.{Kind, Node}
 use Rattle.akl.specs.Parts.{parts}
 use Rattle.mem_words.specs.declared.Word.{Word}
@@ -26,15 +22,8 @@ use Rattle.store_pieces.proofs.Words.{words-prefix}
 pub lent-words : (O : List ℕ) (n : ℕ) → 3 * n ≤ length O → length (words (take (3 * n) O)) ≡ n
 lent-words O n h = omega (arith, length-words (take (3 * n) O), length-take-le (3 * n) O h)
 
-pub many : (O : List ℕ) (n p : ℕ) → 3 * n ≤ length O → p ≡ parts-in Others (words (take (3 * n) O)) → 2048 < p → false ≡ leb (parts-in Others (take n (words O))) most-parts
-many O n p h e g =
-    let k : p ≡ parts-in Others (take n (words O)) = e ∙ ap (parts-in Others) (words-prefix O n h) in
-    sym (lt-leb (parts-in Others (take n (words O))) most-parts (omega (arith, k)))
-
-pub few : (O : List ℕ) (n p : ℕ) → 3 * n ≤ length O → p ≡ parts-in Others (words (take (3 * n) O)) → p ≤ 2048 → true ≡ leb (parts-in Others (take n (words O))) most-parts
-few O n p h e g =
-    let k : p ≡ parts-in Others (take n (words O)) = e ∙ ap (parts-in Others) (words-prefix O n h) in
-    sym (le-leb (parts-in Others (take n (words O))) most-parts (omega (arith, k)))
+pub lent-parts : (O : List ℕ) (n p : ℕ) → 3 * n ≤ length O → p ≡ parts-in Others (words (take (3 * n) O)) → p ≡ parts-in Others (take n (words O))
+lent-parts O n p h e = e ∙ ap (parts-in Others) (words-prefix O n h)
 
 -- The words of a configuration have its parts.
 pub words-parts : (num : Name → ℕ) {k : Kind} (g : Node k) (W : List Word) → W ≡ node-words num g [] → parts-in Others W ≡ parts g
@@ -44,7 +33,3 @@ words-parts num g W e = ap (parts-in Others) e ∙ (let h = node-parts g num [] 
 pub config-parts : (s : State) → parts-in Others (config-words s) ≡ parts (s .config .root)
 unfolding config-words
 config-parts s = words-parts (number-in (table s)) (s .config .root) (config-words s) refl
-
--- So the test on words is that on the configuration.
-pub fits-is : (num : Name → ℕ) {k : Kind} (g : Node k) (O : List ℕ) (n : ℕ) → take n (words O) ≡ node-words num g [] → leb (parts-in Others (take n (words O))) most-parts ≡ leb (parts g) most-parts
-fits-is num g O n e = ap (λ (p : ℕ). leb p most-parts) (words-parts num g (take n (words O)) e)

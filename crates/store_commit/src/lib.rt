@@ -1,9 +1,7 @@
 // A new configuration written into a store: all else of it stays. Whether it is within the limits is found out before.
 ghost use mathlib.Core.Path.{_≡_};
-ghost use mathlib.Core.Bool.{false};
 ghost use mathlib.Core.List.{[], _∷_};
-ghost use Prim.Native.Nat.{_*_, _≤_};
-ghost use lib.Dec.{leb};
+ghost use Prim.Native.Nat.{_*_, _<_, _≤_};
 ghost use lib.ListN.{length, take};
 ghost use Rattle.akl.specs.Limits.{most-parts};
 ghost use Rattle.mem_words.specs.Words.{words};
@@ -11,7 +9,7 @@ ghost use Rattle.store_form.specs.Form.{numbers-bytes};
 ghost use Rattle.store_parts.specs.declared.Among.the-variants.{Others};
 ghost use Rattle.store_parts.specs.Counting.{parts-in};
 ghost use Rattle.store_commit.specs.Committed.{CanCommit, Committed};
-ghost use Rattle.store_commit.specs.Settled.{CanSettle, Settled};
+ghost use Rattle.store_commit.specs.Settled.{CanSettle, Settled, Written};
 
 // The header's last two numbers as bytes.
 fn count_bytes(n: usize, next: usize) -> [u8; 6]
@@ -51,46 +49,49 @@ pub fn commit(b: &mut [u8], src: &[u8], n: usize, next: usize, old: usize)
     store_regions::put_region(b, 159837, e, src, 3 * n);
 }
 
-// Whether the first `n` words of `out` have at most 2,048 parts.
-pub fn fits_parts(out: &[u8], n: usize) -> bool
-    requires { ⌜ (3 * n ≤ length (now out)) × (n ≤ 1048576) ⌝ }
-    ensures { λ r. ⌜ r ≡ leb (parts-in Others (take n (words (now (out .entry))))) most-parts ⌝ }
+// At least the parts of the first `n` words of `out`, and exactly so many where it is more than 2,048. They are counted only where `most`, if it
+// is within the limit an upper bound of them, is not.
+fn counted(out: &[u8], n: usize, most: usize) -> usize
+    requires { ⌜ (3 * n ≤ length (now out)) × (n ≤ 1048576) × (most ≤ most-parts → parts-in Others (take n (words (now out))) ≤ most) ⌝ }
+    ensures { λ p. ⌜ (parts-in Others (take n (words (now (out .entry)))) ≤ p) × (most-parts < p → most-parts < parts-in Others (take n (words (now (out .entry))))) ⌝ }
 {
-    let e = 3 * n;
-    let p = store_parts::parts(&out[..e]);
-    if 2048 < p {
-        return false;
+    if most <= 2048 {
+        return most;
     }
-    true
+    let e = 3 * n;
+    store_parts::parts(&out[..e])
 }
 
-// Likewise; they are counted only where the rule that built them `adds` parts.
-fn within(out: &[u8], n: usize, adds: bool) -> bool
-    requires { ⌜ (3 * n ≤ length (now out)) × (n ≤ 1048576) × (adds ≡ false → parts-in Others (take n (words (now out))) ≤ most-parts) ⌝ }
-    ensures { λ r. ⌜ r ≡ leb (parts-in Others (take n (words (now (out .entry))))) most-parts ⌝ }
-{
-    if adds {
-        return fits_parts(out, n);
-    }
-    true
+// What is answered, and where it is 0 an upper bound of the parts that were written.
+pub struct Settlement {
+    pub answer: usize,
+    pub parts: usize,
 }
 
 // Answers 14 where the next fresh number would pass 65,535, 15 where the configuration that was built as `n` words in `out` has too many
 // parts; else 0, and writes it into the store `b`, over the `old` words there. Words of a configuration within the limits are at most
-// 28,672. Where nothing `adds` parts they are not counted.
-pub fn settle(b: &mut [u8], out: &[u8], n: usize, next: usize, old: usize, adds: bool) -> usize
-    requires { ⌜ CanSettle (now b) (now out) n old adds ⌝ }
-    ensures { λ r. ⌜ Settled (now (b .entry)) (now (out .entry)) n next (now (b .exit)) r ⌝ }
+// 28,672. Where `most` is within the limit the parts are at most `most`, and are not counted.
+pub fn settle(
+    b: &mut [u8],
+    out: &[u8],
+    n: usize,
+    next: usize,
+    old: usize,
+    most: usize,
+) -> Settlement
+    requires { ⌜ CanSettle (now b) (now out) n old most ⌝ }
+    ensures { λ r. ⌜ Settled (now (b .entry)) (now (out .entry)) n next (now (b .exit)) (r .answer) × Written (now (out .entry)) n (r .answer) (r .parts) ⌝ }
 {
     if 65535 < next {
-        return 14;
+        return Settlement { answer: 14, parts: 0 };
     }
     if 28672 < n {
-        return 15; // more words than so few parts have
+        return Settlement { answer: 15, parts: 0 }; // more words than so few parts have
     }
-    if !within(out, n, adds) {
-        return 15;
+    let p = counted(out, n, most);
+    if 2048 < p {
+        return Settlement { answer: 15, parts: p };
     }
     commit(b, out, n, next, old);
-    0
+    Settlement { answer: 0, parts: p }
 }
