@@ -12,6 +12,7 @@ fn tried(steps: &[u8], store: &mut [u8], work: &mut [u8]) -> usize
 {
     let mut at: usize = 0;
     let mut n: usize = 0;
+    let mut u: usize = 2048; // at least the parts that the store's configuration has
     loop {
         if steps.len() <= at {
             return 256 * n;
@@ -19,16 +20,18 @@ fn tried(steps: &[u8], store: &mut [u8], work: &mut [u8]) -> usize
         let Line::At(k, rest) = read_lines::read_line(steps, Cursor(at)) else {
             return 18; // never: every line of the text was read before
         };
-        let x = step_store::step(
+        let done = step_store::step(
             store,
             work,
+            u,
             k.rule as usize,
             k.place,
             k.argument as usize,
         );
-        if x != 0 {
-            return 256 * n + x;
+        if done.answer != 0 {
+            return 256 * n + done.answer;
         }
+        u = done.parts;
         n += 1;
         at = rest.0;
     }

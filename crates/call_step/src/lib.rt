@@ -22,7 +22,9 @@ fn judged(
     }
     if check_store::formed(store, work) {
         rule_solve::ready(work);
-        return step_store::step(store, work, rule, place, argument);
+        // any state that is held has at most 2,048 parts
+        let done = step_store::step(store, work, 2048, rule, place, argument);
+        return done.answer;
     }
     9
 }
