@@ -5,11 +5,13 @@ use mathlib.Core.List.{List}
 use Prim.Native.Nat.{ℕ, _+_, _-_, _*_, _/_, _≤_, _<_}
 use native.Mathlib.Decide.{decLt}
 use native.Mathlib.Omega.{arith}
-use lib.ListN.{length, getD, take, drop, length-drop}
+use native.Mathlib.Nat.{min-le-right}
+use lib.ListN.{length, getD, take, drop, length-take, length-drop}
 use lib.Seq.{ext-getD, length-take-le, getD-take, getD-drop}
 use Rattle.mem_words.specs.declared.Word.{Word}
 use Rattle.mem_words.specs.declared.Word.the-variants.{Bad}
 use Rattle.mem_words.specs.Words.{words, word, length-words, getD-words}
+use Rattle.mem_parts.specs.Parts as parts
 use Rattle.rule_words.specs.Scans.{close}
 use Rattle.rule_words.specs.Pieces.{cut}
 use Rattle.rule_words.proofs.Loops.{close-inside, close-past}
@@ -49,6 +51,11 @@ module _ (l : List ℕ) (a n : ℕ) (h : 3 * a + 3 * n ≤ length l) where
           ∙ sym (getD-words l (a + i) (omega (arith, q)))
           ∙ sym (getD-take n (drop a (words l)) i Bad g ∙ getD-drop a (words l) i Bad)
 
+-- no part has more words than all
+pub part-length : (l : List ℕ) (a z : ℕ) → length (words (parts.cut a z l)) ≤ length (words l)
+unfolding parts.cut
+part-length l a z = let L = take (z - a) (drop a l) in omega (arith, length-words l, length-words L, length-take (z - a) (drop a l), length-drop a l, min-le-right (z - a) (length (drop a l)))
+
 -- a bracket that closes opens before
 pub opens-before : (W : List Word) (i : ℕ) → close W i < length W → i < close W i
 opens-before W i h = go (decLt i (length W))
@@ -65,20 +72,14 @@ module _ (l : List ℕ) (i e : ℕ) (q : e ≡ close (words l) i) (h : close (wo
   inside : 3 * i + 3 * (e + 1 - i) ≤ length l
   inside = omega (arith, q, h, opens-before (words l) i h, length-words l)
 
-  pub piece-is : words (take (3 * e + 3 - 3 * i) (drop (3 * i) l)) ≡ cut i (close (words l) i + 1) (words l)
-  unfolding cut
+  piece-is : words (parts.cut (3 * i) (3 * e + 3) l) ≡ cut i (close (words l) i + 1) (words l)
+  unfolding cut parts.cut
   piece-is =
       ap (λ (n : ℕ). words (take n (drop (3 * i) l))) amount
       ∙ words-mid l i (e + 1 - i) inside
       ∙ ap (λ (n : ℕ). take (n + 1 - i) (drop i (words l))) q
 
-  pub piece-length : length (words (take (3 * e + 3 - 3 * i) (drop (3 * i) l))) ≤ length (words l)
-  piece-length =
-      let n : length (take (3 * (e + 1 - i)) (drop (3 * i) l)) ≡ 3 * (e + 1 - i) = length-take-le (3 * (e + 1 - i)) (drop (3 * i) l) (omega (arith, inside, length-drop (3 * i) l)) in
-      let m : length (words (take (3 * e + 3 - 3 * i) (drop (3 * i) l))) ≡ length (words (take (3 * (e + 1 - i)) (drop (3 * i) l))) = ap (λ (n : ℕ). length (words (take n (drop (3 * i) l)))) amount in
-      omega (arith, n, m, inside, length-words (take (3 * (e + 1 - i)) (drop (3 * i) l)), length-words l)
-
-  pub piece-counted : (p : ℕ) → p ≡ parts-in Others (words (take (3 * e + 3 - 3 * i) (drop (3 * i) l))) → p ≡ piece-parts (words l) i
+  pub piece-counted : (p : ℕ) → p ≡ parts-in Others (words (parts.cut (3 * i) (3 * e + 3) l)) → p ≡ piece-parts (words l) i
   unfolding piece-parts
   piece-counted p c = c ∙ ap (parts-in Others) piece-is
 

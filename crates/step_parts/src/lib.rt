@@ -3,8 +3,19 @@ ghost use mathlib.Core.Path.{_≡_};
 ghost use Prim.Native.Nat.{_+_, _*_, _<_, _≤_};
 ghost use lib.ListN.{length};
 ghost use Rattle.mem_words.specs.Words.{words};
+ghost use Rattle.mem_parts.specs.Parts.{cut};
+ghost use Rattle.store_parts.specs.declared.Among.the-variants.{Others};
+ghost use Rattle.store_parts.specs.Counting.{parts-in};
 ghost use Rattle.rule_words.specs.Scans.{close};
 ghost use Rattle.step_parts.specs.Bounds.{piece-parts, CanBound, Bound};
+
+// The parts of the words in the bytes from `a` on up to `z`.
+fn between(ws: &[u8], a: usize, z: usize) -> usize
+    requires { ⌜ (length (words (now ws)) ≤ 28672) × (a ≤ z) × (z ≤ length (now ws)) ⌝ }
+    ensures { λ p. ⌜ (p ≡ parts-in Others (words (cut a z (now (ws .entry))))) × (p ≤ 65536 * 28672) ⌝ }
+{
+    store_parts::parts(&ws[a..z])
+}
 
 // The parts of the piece that opens at `i`, up to its End.
 fn piece(ws: &[u8], i: usize) -> usize
@@ -14,7 +25,7 @@ fn piece(ws: &[u8], i: usize) -> usize
     let e = rule_close::end_of(ws, i);
     let a = 3 * i;
     let z = 3 * e + 3;
-    store_parts::parts(&ws[a..z])
+    between(ws, a, z)
 }
 
 // An upper bound of the parts of the first `x` words of `out`, which rule `r` built at `i` of words with at most `u` parts; more than 2,048

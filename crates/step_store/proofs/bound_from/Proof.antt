@@ -15,7 +15,7 @@ part-bound-end c = search needs
 
 bound-requires : tie.Need-bound-requires
 unfolding cut
-bound-requires c κs = c .before .before .pre .0
+bound-requires c κs = record { room = c .before .before .pre .0 .room; few = c .before .before .pre .0 .few; closed = c .before .before .pre .0 .closed }
 
 returns : tie.Need-returns
 unfolding cut
