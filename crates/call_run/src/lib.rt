@@ -4,6 +4,7 @@ ghost use Rattle.call_run.specs.Called.{CanRun, RunTo, RunCalled};
 use read_steps::Checked;
 use read_steps::Line;
 use read_tokens::Cursor;
+use rule_places::Finger;
 
 // Tries the steps of a text that was read, line by line, until one is refused or none is left.
 fn tried(steps: &[u8], store: &mut [u8], work: &mut [u8]) -> usize
@@ -13,6 +14,7 @@ fn tried(steps: &[u8], store: &mut [u8], work: &mut [u8]) -> usize
     let mut at: usize = 0;
     let mut n: usize = 0;
     let mut u: usize = 2048; // at least the parts that the store's configuration has
+    let mut near = Finger { at: 0, before: 0 }; // in its words
     loop {
         if steps.len() <= at {
             return 256 * n;
@@ -24,6 +26,7 @@ fn tried(steps: &[u8], store: &mut [u8], work: &mut [u8]) -> usize
             store,
             work,
             u,
+            near,
             k.rule as usize,
             k.place,
             k.argument as usize,
@@ -32,6 +35,7 @@ fn tried(steps: &[u8], store: &mut [u8], work: &mut [u8]) -> usize
             return 256 * n + done.answer;
         }
         u = done.parts;
+        near = done.finger;
         n += 1;
         at = rest.0;
     }

@@ -3,6 +3,7 @@ ghost use lib.ListN.{length};
 ghost use Rattle.step_meant.specs.Deciding.{step-of};
 ghost use Rattle.call_step.specs.Called.{StepTo, StepCalled};
 use read_steps::Place;
+use rule_places::Finger;
 
 // As `akl_step`, but for the working slice afterwards.
 fn judged(
@@ -23,7 +24,8 @@ fn judged(
     if check_store::formed(store, work) {
         rule_solve::ready(work);
         // any state that is held has at most 2,048 parts
-        let done = step_store::step(store, work, 2048, rule, place, argument);
+        let first = Finger { at: 0, before: 0 };
+        let done = step_store::step(store, work, 2048, first, rule, place, argument);
         return done.answer;
     }
     9

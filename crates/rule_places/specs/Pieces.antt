@@ -24,10 +24,10 @@ pub record InPiece (b : List ℕ) (i : ℕ) (m : List ℕ) : Type 0 where
   pub inside : i + 17 ≤ length (words b)
   pub marks : m ≡ firsts 16
 
--- the place of number p is as far as it is from where the search stands
-pub record AheadOf (W : List Word) (p : ℕ) (a : Ahead) : Type 0 where
+-- the place at e is as far as it is from where the search stands
+pub record AheadOf (W : List Word) (e : ℕ) (a : Ahead) : Type 0 where
   pub within : a .at ≤ length W
-  pub same : a .at + place-at (drop (a .at) W) (a .left) ≡ place-at W p
+  pub same : a .at + place-at (drop (a .at) W) (a .left) ≡ e
 
 pub one-not : (c v : ℕ) → (c ≡ 4 → ⊥) → 0 ≡ place-one (word c v)
 one-not zero zero n = refl
@@ -101,7 +101,7 @@ step-no w r zero e = one-word w r zero ∙ ap (λ (b : Bool). cond b 0 (suc (pla
 step-no w r (suc p) e = one-word w r (suc p) ∙ ap (λ (b : Bool). suc (place-at r (cond b (suc p - 1) (suc p)))) e
 
 -- places passed over
-over : (n : ℕ) (l : List Word) (p : ℕ) → n ≤ length l → total place-one (take n l) ≤ p → place-at l p ≡ n + place-at (drop n l) (p - total place-one (take n l))
+pub over : (n : ℕ) (l : List Word) (p : ℕ) → n ≤ length l → total place-one (take n l) ≤ p → place-at l p ≡ n + place-at (drop n l) (p - total place-one (take n l))
 unfolding total
 over zero l p h g = let e : p ≡ p - 0 = omega arith in ap (place-at l) e ∙ sym (zero-add (place-at l (p - 0)))
 over (suc n) [] p h g = absurd (omega arith)

@@ -1,12 +1,13 @@
 // Where a place stands in lent words, by its number.
 ghost use mathlib.Core.Path.{_≡_};
 ghost use Prim.Native.Nat.{_+_, _*_, _≤_};
-ghost use lib.ListN.{length};
+ghost use lib.ListN.{length, drop};
 ghost use Rattle.mem_words.specs.Words.{words, word};
 ghost use Rattle.store_words.specs.Contexts.{place-at};
 ghost use Rattle.mem_tallies.specs.Tallies.{if-first, Tallied};
 ghost use Rattle.rule_places.specs.Finding.{begins, hits, passed};
 ghost use Rattle.rule_places.specs.Pieces.{place-one, InPiece, AheadOf};
+ghost use Rattle.rule_places.specs.Fingers.{Points};
 use mem_words::Word;
 use read_steps::Place;
 
@@ -49,6 +50,12 @@ pub struct Ahead {
     pub left: u64,
 }
 
+// A position, and how many places begin before it: a search for a later place can begin there.
+pub struct Finger {
+    pub at: usize,
+    pub before: u64,
+}
+
 // 1 where the bytes are those of a word with which a place begins, and `m` marks the first of them. No branch stays in the machine's code.
 fn one(m: u8, c: u8, lo: u8, hi: u8) -> u8
     ensures { λ r. ⌜ (r ≡ if-first m (place-one (word c (lo + hi * 256)))) × (r ≤ 1) ⌝ }
@@ -81,13 +88,25 @@ fn places(ws: &[u8], i: usize, m: &[u8]) -> u8
     s
 }
 
-// Passes over pieces of sixteen words, as long as the place is behind them.
-fn front(ws: &[u8], p: u64) -> Ahead
-    ensures { λ r. ⌜ AheadOf (words (now (ws .entry))) p r ⌝ }
+// Where a search for the place `p` begins: at the finger, unless the place is before it.
+fn begin(ws: &[u8], f: Finger, p: u64) -> Ahead
+    requires { ⌜ Points (words (now ws)) f ⌝ }
+    ensures { λ r. ⌜ AheadOf (words (now (ws .entry))) (place-at (words (now (ws .entry))) p) r ⌝ }
+{
+    if p < f.before {
+        return Ahead { at: 0, left: p };
+    }
+    Ahead { at: f.at, left: p - f.before }
+}
+
+// Passes over pieces of sixteen words from `at` on, as long as the place that `p` more are before is behind them.
+fn front(ws: &[u8], at: usize, p: u64) -> Ahead
+    requires { ⌜ at ≤ length (words (now ws)) ⌝ }
+    ensures { λ r. ⌜ AheadOf (words (now (ws .entry))) (at + place-at (drop at (words (now (ws .entry)))) p) r ⌝ }
 {
     let n = mem_words::count(ws);
     let m = mem_tallies::first_bytes();
-    let mut i = 0;
+    let mut i = at;
     let mut left = p;
     while 17 <= n - i {
         let s = places(ws, i, &m) as u64;
@@ -100,12 +119,14 @@ fn front(ws: &[u8], p: u64) -> Ahead
     Ahead { at: i, left: left }
 }
 
-// Where the place stands; the number of words if there is none of that number.
-pub fn position_of(ws: &[u8], p: Place) -> usize
+// Where the place stands, looked for from the finger on; the number of words if there is none of that number.
+pub fn position_from(ws: &[u8], f: Finger, p: Place) -> usize
+    requires { ⌜ Points (words (now ws)) f ⌝ }
     ensures { λ r. ⌜ (r ≡ place-at (words (now (ws .entry))) (p .0)) × (r ≤ length (words (now (ws .entry)))) ⌝ }
 {
     let n = mem_words::count(ws);
-    let a = front(ws, p.0);
+    let b = begin(ws, f, p.0);
+    let a = front(ws, b.at, b.left);
     let mut i = a.at;
     let mut left = a.left;
     while i < n {
@@ -117,4 +138,11 @@ pub fn position_of(ws: &[u8], p: Place) -> usize
         i += 1;
     }
     n
+}
+
+// The same from the first word on.
+pub fn position_of(ws: &[u8], p: Place) -> usize
+    ensures { λ r. ⌜ (r ≡ place-at (words (now (ws .entry))) (p .0)) × (r ≤ length (words (now (ws .entry)))) ⌝ }
+{
+    position_from(ws, Finger { at: 0, before: 0 }, p)
 }

@@ -55,4 +55,4 @@ pub record HasCondition (W D : List Word) (r a i : ℕ) (b : Bool) : Type 0 wher
 -- the step is refused, or its place stands at i and only the limits are left to be tested
 abbrev pub Decided : List Word → List Word → Step → Decision → Type 0
 Decided W D k (No x) = (0 < x) × Refuses W D k x
-Decided W D k (At i) = Goes W D k i
+Decided W D k (At i) = Goes W D k i × (i ≡ place-at W (k .place)) × (i < length W)

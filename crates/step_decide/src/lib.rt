@@ -5,10 +5,12 @@ ghost use lib.ListN.{length};
 ghost use Rattle.akl.specs.Table.{rule-row};
 ghost use Rattle.mem_words.specs.Words.{words};
 ghost use Rattle.store_words.specs.Contexts.{place-at};
+ghost use Rattle.rule_places.specs.Fingers.{Points};
 ghost use Rattle.rule_solve.specs.Idle.{Idle};
 ghost use Rattle.step_meant.specs.Deciding.{step-of};
 ghost use Rattle.step_decide.specs.Decided.{row-takes, argument-there, CanDecide, CanTake, AsksStable, HasCondition, Decided};
 use read_steps::Place;
+use rule_places::Finger;
 use rule_table::Row;
 
 // A step's refusal, or where its place stands.
@@ -71,16 +73,17 @@ fn has_condition(t: &[u8], d: &[u8], w: &mut [u8], r: usize, a: usize, i: usize)
     argument_stable(t, d, w, r, a, i)
 }
 
-// Rule `r` at the place `p` with the argument `a`, on a configuration's words `t` and a program's words `d`.
-pub fn decide(t: &[u8], d: &[u8], w: &mut [u8], r: usize, p: Place, a: usize) -> Decision
-    requires { ⌜ Idle (now w) × CanDecide (words (now t)) (words (now d)) ⌝ }
+// Rule `r` at the place `p` with the argument `a`, on a configuration's words `t` and a program's words `d`. The place is looked for from
+// the finger on.
+pub fn decide(t: &[u8], d: &[u8], w: &mut [u8], f: Finger, r: usize, p: Place, a: usize) -> Decision
+    requires { ⌜ Idle (now w) × CanDecide (words (now t)) (words (now d)) × Points (words (now t)) f ⌝ }
     ensures { λ x. ⌜ Decided (words (now (t .entry))) (words (now (d .entry))) (step-of r (p .0) a) x × Idle (now (w .exit)) ⌝ }
 {
     let n = kind_taken(r);
     if n == 10 {
         return Decision::No(10); // no rule
     }
-    let i = rule_places::position_of(t, p);
+    let i = rule_places::position_from(t, f, p);
     if i == mem_words::count(t) {
         return Decision::No(11); // no place
     }

@@ -125,7 +125,7 @@ module _ (b : List ℕ) (W D : List Word) (next : ℕ) (v : Viewed b W D next) (
       abbrev pub then : (s : State) → held most-parts b ≡ some s → State
       then s e = with-config s (g s (v .meant s e) .after)
 
-      words-next : (s : State) (e : held most-parts b ≡ some s) → X ≡ config-words (then s e)
+      pub words-next : (s : State) (e : held most-parts b ≡ some s) → X ≡ config-words (then s e)
       words-next s e = ap (effect-words W D (k .rule) i) (v .number s e) ∙ next-is W D s (v .meant s e) k i (g s (v .meant s e)) .0
 
       next-low : (s : State) (e : held most-parts b ≡ some s) → g s (v .meant s e) .after .next ≡ next + f

@@ -4,3 +4,4 @@ pub mod Piece
 pub mod Done
 pub mod Bounded
 pub mod Regions
+pub mod Pointing

@@ -29,9 +29,15 @@ use Rattle.step_decide.specs.declared.Decision.{Decision}
 use Rattle.step_decide.specs.declared.Decision.the-variants.{No, At}
 use Rattle.step_decide.proofs.Places.{stands-within}
 use Rattle.step_store.specs.Regions.{config-part, program-part, Counts, CanRewrite, WasBuilt}
+use Rattle.store_words.specs.Contexts.{place-at}
+use Rattle.rule_places.specs.declared.Finger.{Finger}
+use Rattle.rule_places.specs.Fingers.{Points}
+use Rattle.step_finger.specs.Following.{Follows}
 use Rattle.step_store.specs.Bounds.{AtMost, Carried}
+use Rattle.step_store.specs.Pointed.{Pointed, Left}
 use Rattle.step_store.proofs.Done.{Viewed, viewed, counted}
 use Rattle.step_store.proofs.Bounded.{can-bound, bound-fits, carried}
+use Rattle.step_store.proofs.Pointing.{left-pointed}
 
 pub counts : (b : List ℕ) (n m : ℕ) → 245853 ≤ length b → HoldsState b → n ≡ words-in b → m ≡ rules-in b → Counts b n m
 counts b n m l h e f = record { long = l; held = h; config = e; rules = f }
@@ -54,6 +60,10 @@ module _ {b : List ℕ} {n m : ℕ} (c : Counts b n m) where
   pub can-decide : CanDecide (config-part b n) (program-part b m)
   can-decide = record { state = c .held .state; meant = parts-viewed (next-in b) refl .meant (c .held .state) (c .held .holds) }
 
+  -- a finger in the configuration is one in its words
+  pub points-there : (f : Finger) → Pointed b f → Points (config-part b n) f
+  points-there f p = subst (λ (Z : List Word). Points Z f) (sym (parts-viewed (next-in b) refl .meant (c .held .state) (c .held .holds) .config)) (p .there (c .held .state) (c .held .holds))
+
   -- behind the configuration all is zero
   pub config-zeros : Zeros b (159837 + 3 * n) 245853
   config-zeros i p q =
@@ -71,7 +81,10 @@ pub decided-no : (W D : List Word) (k : Step) (d : Decision) (x : ℕ) → d ≡
 decided-no W D k d x e h = subst (Decided W D k) e h
 
 pub decided-at : (W D : List Word) (k : Step) (d : Decision) (i : ℕ) → d ≡ At i → Decided W D k d → Goes W D k i
-decided-at W D k d i e h = subst (Decided W D k) e h
+decided-at W D k d i e h = subst (Decided W D k) e h .0
+
+pub decided-place : (W D : List Word) (k : Step) (d : Decision) (i : ℕ) → d ≡ At i → Decided W D k d → (i ≡ place-at W (k .place)) × (i < length W)
+decided-place W D k d i e h = let q = subst (Decided W D k) e h in (q .1, q .2)
 
 -- the part in which words were built came back
 pub built-back : (a e : ℕ) (L Y : List ℕ) (cap x : ℕ) (X : List Word) → a ≤ e → e ≤ length L → length Y ≡ length (cut a e L) → Built cap X x (words Y) → Built cap X x (words (cut a e (putMid a (e - a) L Y)))
@@ -125,6 +138,9 @@ module _ {b : List ℕ} {n m : ℕ} (c : Counts b n m) (r p a i : ℕ) (g : Goes
       zeros = config-zeros c;
       fit = λ y z. bound-fits b (config-part b n) (program-part b m) next (parts-viewed c next e) (step-of r p a) i f g k h x S (t .built) (c .held) u q most d y z;
     }
+
+    pub settled-left : (B : List ℕ) (y : ℕ) (z : Finger) → Settled b S x (next + f) B y → Follows (config-part b n) r i z → Left B y z
+    settled-left B y z s d = left-pointed b (config-part b n) (program-part b m) next (parts-viewed c next e) (step-of r p a) i f g k h x S (t .built) (c .held) B y z s d
 
     pub settled-carried : (B : List ℕ) (y q : ℕ) → Settled b S x (next + f) B y → Written S x y q → Carried B y q
     settled-carried B y q s d = carried b (config-part b n) (program-part b m) next (parts-viewed c next e) (step-of r p a) i f g k h x S (t .built) (c .held) B y q s d

@@ -1,5 +1,6 @@
 // A step on a store that holds a state: what it is refused with, or 0 and the store with the next configuration.
-ghost use Prim.Native.Nat.{_+_, _*_, _≤_};
+ghost use mathlib.Core.Path.{_≡_};
+ghost use Prim.Native.Nat.{_+_, _*_, _<_, _≤_};
 ghost use lib.ListN.{length};
 ghost use Rattle.mem_words.specs.Words.{words};
 ghost use Rattle.mem_parts.specs.Parts.{cut, Outside};
@@ -9,23 +10,37 @@ ghost use Rattle.rule_hidden.specs.Counting.{Capped};
 ghost use Rattle.rule_rewrite.specs.Rewriting.{effect-words, fresh-words};
 ghost use Rattle.rule_solve.specs.Idle.{Idle};
 ghost use Rattle.step_meant.specs.Deciding.{step-of, StepDone, HoldsState};
+ghost use Rattle.store_words.specs.Contexts.{place-at};
+ghost use Rattle.rule_places.specs.Fingers.{Points};
+ghost use Rattle.step_finger.specs.Following.{Follows};
 ghost use Rattle.step_decide.specs.Decided.{Decided};
 ghost use Rattle.step_parts.specs.Bounds.{CanBound, Bound};
 ghost use Rattle.step_store.specs.Regions.{config-part, program-part, Counts, CanRewrite, WasBuilt};
 ghost use Rattle.step_store.specs.Bounds.{AtMost, Carried};
+ghost use Rattle.step_store.specs.Pointed.{Pointed, Left};
 use read_steps::Place;
+use rule_places::Finger;
 use step_decide::Decision;
 use store_commit::Settlement;
 
 // What is decided of the step, on the regions of the store.
-fn decision(b: &[u8], w: &mut [u8], n: usize, m: usize, r: usize, p: Place, a: usize) -> Decision
-    requires { ⌜ Idle (now w) × Counts (now b) n m ⌝ }
+fn decision(
+    b: &[u8],
+    w: &mut [u8],
+    n: usize,
+    m: usize,
+    near: Finger,
+    r: usize,
+    p: Place,
+    a: usize,
+) -> Decision
+    requires { ⌜ Idle (now w) × Counts (now b) n m × Points (config-part (now b) n) near ⌝ }
     ensures { λ x. ⌜ Decided (config-part (now (b .entry)) n) (program-part (now (b .entry)) m) (step-of r (p .0) a) x × Idle (now (w .exit)) ⌝ }
 {
     let e = 159837 + 3 * n;
     let d = store_views::program_start(b);
     let f = d + 3 * m;
-    step_decide::decide(&b[159837..e], &b[d..f], w, r, p, a)
+    step_decide::decide(&b[159837..e], &b[d..f], w, near, r, p, a)
 }
 
 // How many fresh variables the rule takes at `i`, or more than 65,536.
@@ -91,32 +106,52 @@ fn settle_from(
     store_commit::settle(b, &w[lo..hi], x, next, n, most)
 }
 
-// What a step answers, and where it is 0 an upper bound of the parts of what it left.
+// A finger in what rule `r` leads to from the place `p`, which stands at `i`.
+fn finger_in(b: &[u8], n: usize, near: Finger, r: usize, i: usize, p: Place) -> Finger
+    requires { ⌜ (159837 + 3 * n ≤ 245853) × (245853 ≤ length (now b)) × Points (config-part (now b) n) near × (i ≡ place-at (config-part (now b) n) (p .0)) × (i < length (config-part (now b) n)) ⌝ }
+    ensures { λ f. ⌜ Follows (config-part (now (b .entry)) n) r i f ⌝ }
+{
+    let e = 159837 + 3 * n;
+    step_finger::after(&b[159837..e], near, r, i, p)
+}
+
+// What a step answers, and where it is 0 an upper bound of the parts of what it left and a finger in it.
 pub struct Stepped {
     pub answer: usize,
     pub parts: usize,
+    pub finger: Finger,
 }
 
-// Rule `r` at the place `p` with the argument `a`, on a store with at most `u` parts. Answers the refusal, 10 to 15; or 0, and `b` is the store
-// after the step.
-pub fn step(b: &mut [u8], w: &mut [u8], u: usize, r: usize, p: Place, a: usize) -> Stepped
-    requires { ⌜ (245853 ≤ length (now b)) × Idle (now w) × HoldsState (now b) × AtMost (now b) u × (u ≤ 2048) ⌝ }
-    ensures { λ x. ⌜ StepDone (now (b .entry)) (step-of r (p .0) a) (x .answer) (now (b .exit)) × Idle (now (w .exit)) × Carried (now (b .exit)) (x .answer) (x .parts) ⌝ }
+// Rule `r` at the place `p` with the argument `a`, on a store with at most `u` parts and a finger in its configuration. Answers the refusal,
+// 10 to 15; or 0, and `b` is the store after the step.
+pub fn step(
+    b: &mut [u8],
+    w: &mut [u8],
+    u: usize,
+    near: Finger,
+    r: usize,
+    p: Place,
+    a: usize,
+) -> Stepped
+    requires { ⌜ (245853 ≤ length (now b)) × Idle (now w) × HoldsState (now b) × AtMost (now b) u × (u ≤ 2048) × Pointed (now b) near ⌝ }
+    ensures { λ x. ⌜ StepDone (now (b .entry)) (step-of r (p .0) a) (x .answer) (now (b .exit)) × Idle (now (w .exit)) × Carried (now (b .exit)) (x .answer) (x .parts) × Left (now (b .exit)) (x .answer) (x .finger) ⌝ }
 {
     let n = store_views::config_count(b);
     let m = store_views::program_count(b);
     let next = store_views::next_number(b);
-    match decision(b, w, n, m, r, p, a) {
-        Decision::No(x) => Stepped { answer: x, parts: 0 },
+    let none = Finger { at: 0, before: 0 }; // what a refused step hands back
+    match decision(b, w, n, m, near, r, p, a) {
+        Decision::No(x) => Stepped { answer: x, parts: 0, finger: none },
         Decision::At(i) => {
             let f = fresh(b, n, r, i);
             if 65535 - next < f {
-                return Stepped { answer: 14, parts: 0 }; // too few numbers are left
+                return Stepped { answer: 14, parts: 0, finger: none }; // too few numbers are left
             }
             let x = build(b, w, n, m, next, r, i);
             let q = bound_from(w, 401408, 487424, x, u, r, i);
+            let finger = finger_in(b, n, near, r, i, p);
             let s = settle_from(b, w, 401408, 487424, x, next + f, n, q);
-            Stepped { answer: s.answer, parts: s.parts }
+            Stepped { answer: s.answer, parts: s.parts, finger: finger }
         }
     }
 }

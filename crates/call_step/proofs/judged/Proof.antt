@@ -5,6 +5,7 @@ use lib.ListN.{length}
 use Rattle.step_meant.specs.Deciding.{step-of}
 use Rattle.call_slices.proofs.Slices.{some-formed}
 use Rattle.step_store.proofs.Bounded.{at-most-any}
+use Rattle.step_store.proofs.Pointing.{pointed-first}
 use Rattle.call_step.proofs.Answers.{short-store, short-working, not-held, done}
 use borrow.Author.Needs.{needs}
 use Rattle.call_step.proofs.judged.Statement.{statement}
@@ -23,7 +24,7 @@ ready-requires : tie.Need-ready-requires
 ready-requires c κs = record { long = omega (arith, c .before .before .before .before .formed .kept .1 .0) }
 
 step-requires : tie.Need-step-requires
-step-requires c κs = (omega arith, c .before .before .before .before .ready .ensures .0, some-formed (c .before .before .before .before .before .before .before .before .before .before .before .before .before .before .before .before .args .store .now) (c .before .before .before .before .before .before .before .before .before .formed .result) (c .before .before .before .before .before .before .if3 .taken) (c .before .before .before .before .before .before .before .before .before .formed .ensures), at-most-any (c .before .before .before .before .before .before .before .before .before .before .before .before .before .before .before .before .args .store .now), omega arith)
+step-requires c κs = (omega arith, c .before .before .before .before .ready .ensures .0, some-formed (c .before .before .before .before .before .before .before .before .before .before .before .before .before .before .before .before .args .store .now) (c .before .before .before .before .before .before .before .before .before .formed .result) (c .before .before .before .before .before .before .if3 .taken) (c .before .before .before .before .before .before .before .before .before .formed .ensures), at-most-any (c .before .before .before .before .before .before .before .before .before .before .before .before .before .before .before .before .args .store .now), omega arith, pointed-first (c .before .before .before .before .before .before .before .before .before .before .before .before .before .before .before .before .args .store .now))
 
 same-length : tie.Need-same-length
 same-length c = c .before .before .before .before .step .kept .0

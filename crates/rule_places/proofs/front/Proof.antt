@@ -5,16 +5,16 @@ use native.Mathlib.Omega.{arith}
 use lib.ListN.{length, drop}
 use Rattle.mem_words.specs.Words.{words}
 use Rattle.store_words.specs.Contexts.{place-at}
-use Rattle.rule_places.specs.Pieces.{ahead-none, ahead-more, tally-few}
+use Rattle.rule_places.specs.Pieces.{ahead-more, tally-few}
 use borrow.Author.Needs.{needs}
 use Rattle.rule_places.proofs.front.Statement.{statement}
 use Rattle.rule_places.proofs.front.Tie as tie
 
 abbrev Inv-loop : tie.InvT-loop
-Inv-loop ws p n m i₀ left₀ i left = (i ≤ n) × (i + place-at (drop i (words ws)) left ≡ place-at (words ws) p)
+Inv-loop ws at p n m i₀ left₀ i left = (i ≤ n) × (i + place-at (drop i (words ws)) left ≡ at + place-at (drop at (words ws)) p)
 
 abbrev μ-loop : tie.MeasureT-loop
-μ-loop ws p n m i₀ left₀ i left = n - i
+μ-loop ws at p n m i₀ left₀ i left = n - i
 
 count-requires : tie.Need-count-requires Inv-loop μ-loop
 count-requires c κs = search needs
@@ -23,7 +23,7 @@ first-bytes-requires : tie.Need-first-bytes-requires Inv-loop μ-loop
 first-bytes-requires c κs = search needs
 
 loop-holds : tie.Need-loop-holds Inv-loop μ-loop
-loop-holds c = (omega arith, ahead-none (words (c .before .before .before .args .ws .now)) (c .before .before .before .args .p))
+loop-holds c = (omega (arith, c .before .before .before .pre), refl)
 
 sub-loop : tie.Need-sub-loop Inv-loop μ-loop
 sub-loop c = c .loop .inv .0

@@ -49,7 +49,7 @@ part-decide-end-2 c = omega (arith, c .before .program-start .ensures, program-f
 decide-requires : tie.Need-decide-requires
 unfolding cut config-part program-part
 decide-requires c κs =
-    (c .before .before .before .before .before .before .pre .0, subst (λ (o : ℕ). CanDecide (config-part (c .before .before .before .before .before .before .args .b .now) (c .before .before .before .before .before .before .args .n)) (words (cut o (o + 3 * c .before .before .before .before .before .before .args .m) (c .before .before .before .before .before .before .args .b .now)))) (sym (c .before .before .before .program-start .ensures)) (can-decide (c .before .before .before .before .before .before .pre .1)))
+    (c .before .before .before .before .before .before .pre .0, subst (λ (o : ℕ). CanDecide (config-part (c .before .before .before .before .before .before .args .b .now) (c .before .before .before .before .before .before .args .n)) (words (cut o (o + 3 * c .before .before .before .before .before .before .args .m) (c .before .before .before .before .before .before .args .b .now)))) (sym (c .before .before .before .program-start .ensures)) (can-decide (c .before .before .before .before .before .before .pre .1)), c .before .before .before .before .before .before .pre .2)
 
 same-length : tie.Need-same-length
 same-length c = c .before .before .decide .kept .1 .1 .0

@@ -1,0 +1,129 @@
+-- Rules whose words begin with all that stood before their place, or before the bracket around it. Assumes nothing.
+use mathlib.Core.Path.{_≡_, refl, sym, subst, ap, _∙_}
+use mathlib.Core.Bool.{Bool, true, false, cond}
+use mathlib.Core.List.{List, [], _∷_, _++_}
+use Prim.Native.Nat.{ℕ, zero, suc, _+_, _≤_, _<_}
+use native.Mathlib.Decide.{decLt}
+use native.Mathlib.Omega.{arith}
+use lib.ListN.{length, take, getD}
+use Rattle.mem_words.specs.declared.Word.{Word}
+use Rattle.mem_words.specs.declared.Word.the-variants.{Bad}
+use Rattle.rule_words.specs.Scans.{close, around, up, opens, higher}
+use Rattle.rule_words.proofs.Loops.{close-inside, close-past}
+use Rattle.rule_effects.specs.Effects.{effect-1, effect-2, effect-3, effect-4, effect-5, effect-6, effect-7, effect-8, effect-9, effect-10, effect-11, effect-12, effect-13, effect-14, told, called, composed, revealed, promoted, committed, parted, distributed, flattened}
+use Rattle.rule_rewrite.specs.Rewriting.{effect-words}
+use Rattle.step_finger.specs.Following.{KeepsFront, KeepsOuter}
+
+front : (i k : ℕ) (W Z : List Word) → i ≤ k → i ≤ length W → take i (take k W ++ Z) ≡ take i W
+front zero k W Z h g = refl
+front (suc i) zero W Z h g = absurd (omega arith)
+front (suc i) (suc k) [] Z h g = absurd (omega arith)
+front (suc i) (suc k) (w ∷ W) Z h g = ap (λ (l : List Word). w ∷ l) (front i k W Z (omega arith) (omega arith))
+
+pub not-kept : {A : Type 0} → false ≡ true → A
+not-kept e = absurd (let z : _≡_ {A = ℕ} 0 1 = cc in omega arith)
+
+-- a bracket is open around a position before it
+pub up-le : (i : ℕ) (W : List Word) (d : ℕ) → up i W d ≤ i
+unfolding up
+up-le zero W d = omega arith
+up-le (suc i) W d = go (opens (getD W i Bad) d) (up-le i W (higher (getD W i Bad) d))
+  where
+    go : (b : Bool) → up i W (higher (getD W i Bad) d) ≤ i → cond b i (up i W (higher (getD W i Bad) d)) ≤ suc i
+    go true h = omega arith
+    go false h = omega arith
+
+pub around-le : (W : List Word) (i : ℕ) → around W i ≤ i
+unfolding around
+around-le W i = up-le i W 0
+
+-- and closes behind it
+close-from : (W : List Word) (a j : ℕ) → a ≤ j → a ≤ length W → a ≤ close W j
+close-from W a j h g = go (decLt j (length W))
+  where
+    go : Dec (j < length W) → a ≤ close W j
+    go (yes p) = omega (arith, close-inside W j p)
+    go (no p) = omega (arith, close-past W j (omega arith))
+
+module _ (r : ℕ) where
+  fronts : (k : ℕ) → r ≡ k → KeepsFront k → KeepsFront r
+  fronts k e h = subst KeepsFront (sym e) h
+
+  pub keeps-2 : r ≡ 2 → KeepsFront r
+  unfolding effect-words effect-2 called
+  keeps-2 e = fronts 2 e (record { same = λ W D i next h. front i (i + 1) W _ (omega arith) h })
+
+  pub keeps-3 : r ≡ 3 → KeepsFront r
+  unfolding effect-words effect-3 composed
+  keeps-3 e = fronts 3 e (record { same = λ W D i next h. front i (i + 1) W _ (omega arith) h })
+
+  pub keeps-5 : r ≡ 5 → KeepsFront r
+  unfolding effect-words effect-5
+  keeps-5 e = fronts 5 e (record { same = λ W D i next h. front i i W _ (omega arith) h })
+
+  pub keeps-9 : r ≡ 9 → KeepsFront r
+  unfolding effect-words effect-9
+  keeps-9 e = fronts 9 e (record { same = λ W D i next h. front i i W _ (omega arith) h })
+
+  pub keeps-11 : r ≡ 11 → KeepsFront r
+  unfolding effect-words effect-11
+  keeps-11 e = fronts 11 e (record { same = λ W D i next h. front i i W _ (omega arith) h })
+
+  pub keeps-13 : r ≡ 13 → KeepsFront r
+  unfolding effect-words effect-13 distributed
+  keeps-13 e = fronts 13 e (record { same = λ W D i next h. front i (i + 1) W _ (omega arith) h })
+
+  pub keeps-14 : r ≡ 14 → KeepsFront r
+  unfolding effect-words effect-14 flattened
+  keeps-14 e = fronts 14 e (record { same = λ W D i next h. front i i W _ (omega arith) h })
+
+  outers : (k : ℕ) → r ≡ k → KeepsOuter k → KeepsOuter r
+  outers k e h = subst KeepsOuter (sym e) h
+
+  pub keeps-1 : r ≡ 1 → KeepsOuter r
+  unfolding effect-words effect-1 told
+  keeps-1 e = outers 1 e (record {
+    same = λ W D i next h.
+        let a = around W i in
+        let l : a ≤ length W = omega (arith, around-le W i, h) in
+        front a (close W (close W (a + 1) + 1)) W _ (close-from W a (close W (a + 1) + 1) (omega (arith, close-from W a (a + 1) (omega arith) l)) l) l;
+  })
+
+  pub keeps-4 : r ≡ 4 → KeepsOuter r
+  unfolding effect-words effect-4 revealed
+  keeps-4 e = outers 4 e (record {
+    same = λ W D i next h.
+        let a = around W i in
+        let l : a ≤ length W = omega (arith, around-le W i, h) in
+        front a (close W (a + 1)) W _ (close-from W a (a + 1) (omega arith) l) l;
+  })
+
+  pub keeps-6 : r ≡ 6 → KeepsOuter r
+  unfolding effect-words effect-6 promoted
+  keeps-6 e = outers 6 e (record {
+    same = λ W D i next h.
+        let a = around W i in
+        let l : a ≤ length W = omega (arith, around-le W i, h) in
+        front a (close W (a + 1)) W _ (close-from W a (a + 1) (omega arith) l) l;
+  })
+
+  pub keeps-7 : r ≡ 7 → KeepsOuter r
+  unfolding effect-words effect-7
+  keeps-7 e = outers 7 e (record {
+    same = λ W D i next h.
+        let a = around W i in
+        let l : a ≤ length W = omega (arith, around-le W i, h) in
+        front a (close W i + 1) W _ (omega (arith, close-from W a i (around-le W i) l)) l;
+  })
+
+  pub keeps-8 : r ≡ 8 → KeepsOuter r
+  unfolding effect-words effect-8 committed
+  keeps-8 e = outers 8 e (record { same = λ W D i next h. front (around W i) (around W i + 1) W _ (omega arith) (omega (arith, around-le W i, h)) })
+
+  pub keeps-10 : r ≡ 10 → KeepsOuter r
+  unfolding effect-words effect-10 effect-9
+  keeps-10 e = outers 10 e (record { same = λ W D i next h. front (around W i) (around W i) W _ (omega arith) (omega (arith, around-le W i, h)) })
+
+  pub keeps-12 : r ≡ 12 → KeepsOuter r
+  unfolding effect-words effect-12 parted
+  keeps-12 e = outers 12 e (record { same = λ W D i next h. front (around W i) (around W i) W _ (omega arith) (omega (arith, around-le W i, h)) })
