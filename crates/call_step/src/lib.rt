@@ -23,8 +23,8 @@ fn judged(
     }
     if check_store::formed(store, work) {
         rule_solve::ready(work);
-        // any state that is held has at most 2,048 parts
         let first = Finger { at: 0, before: 0 };
+        // any state that is held has at most 2,048 parts
         let done = step_store::step(store, work, 2048, first, rule, place, argument);
         return done.answer;
     }

@@ -8,10 +8,9 @@ use lib.ListN.{length, take, drop}
 use Rattle.mem_words.specs.declared.Word.{Word}
 use Rattle.store_words.specs.Contexts.{place-at}
 use Rattle.mem_tallies.specs.Tallies.{total}
-use Rattle.rule_places.specs.declared.Ahead.{Ahead}
 use Rattle.rule_places.specs.declared.Finger.{Finger}
 use Rattle.rule_places.specs.Finding.{begins, hits, passed, one-word}
-use Rattle.rule_places.specs.Pieces.{place-one, AheadOf, over}
+use Rattle.rule_places.specs.Pieces.{place-one, over}
 
 pub record Points (W : List Word) (f : Finger) : Type 0 where
   pub inside : f .at ≤ length W

@@ -1,4 +1,4 @@
-// Whether a rule can lead to a configuration with more parts.
+// Which rules can lead to a configuration with more parts, and which of them put a piece at their place.
 ghost use mathlib.Core.Path.{_≡_};
 ghost use Rattle.step_fewer.specs.Adding.{adds-parts, itself};
 
@@ -21,7 +21,7 @@ pub fn adds(r: usize) -> bool
     false
 }
 
-// Whether the rule is one of those that put a larger piece for what stands at its place, and change nothing around it.
+// Whether the rule is one of those that can add parts and rewrite what stands at their place itself; 12 and 13 rewrite the box around it.
 pub fn at_itself(rule: usize) -> bool
     ensures { λ b. ⌜ b ≡ itself rule ⌝ }
 {

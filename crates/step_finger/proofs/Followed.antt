@@ -5,7 +5,7 @@ use mathlib.Core.List.{List, [], _∷_}
 use Prim.Native.Nat.{ℕ, zero, suc, _+_, _-_, _*_, _≤_, _<_}
 use native.Mathlib.Omega.{arith}
 use lib.ListN.{length, take, drop, getD, length-take, length-drop}
-use lib.Seq.{getD-take, getD-drop}
+use lib.Seq.{take-take, getD-take, getD-drop}
 use Rattle.mem_words.specs.declared.Word.{Word}
 use Rattle.mem_words.specs.declared.Word.the-variants.{Bad}
 use Rattle.mem_words.specs.Words.{words, length-words}
@@ -21,21 +21,15 @@ use Rattle.step_parts.proofs.Cuts.{words-mid}
 use Rattle.step_finger.specs.Following.{KeepsFront, KeepsOuter, Stays, Follows}
 
 -- words that begin with the same i words begin with the same fewer
-fewer : (q i : ℕ) (X W : List Word) → q ≤ i → i ≤ length W → take i X ≡ take i W → take q X ≡ take q W
-fewer q i X W h l e = sym (inner q i X h) ∙ ap (take q) e ∙ inner q i W h
-  where
-    inner : (q i : ℕ) (Z : List Word) → q ≤ i → take q (take i Z) ≡ take q Z
-    inner zero i Z h = refl
-    inner (suc q) zero Z h = absurd (omega arith)
-    inner (suc q) (suc i) [] h = refl
-    inner (suc q) (suc i) (z ∷ Z) h = ap (λ (l : List Word). z ∷ l) (inner q i Z (omega arith))
+fewer : (q i : ℕ) (X W : List Word) → q ≤ i → take i X ≡ take i W → take q X ≡ take q W
+fewer q i X W h e = sym (take-take q i X h) ∙ ap (take q) e ∙ take-take q i W h
 
 module _ (W : List Word) (r i : ℕ) (l : i ≤ length W) where
   pub stays-front : (q : ℕ) → KeepsFront r → q ≤ i → Stays W r i q
-  stays-front q k h = record { same = λ D next. fewer q i (effect-words W D r i next) W h l (k .same W D i next l) }
+  stays-front q k h = record { same = λ D next. fewer q i (effect-words W D r i next) W h (k .same W D i next l) }
 
-  pub stays-outer : (q : ℕ) → KeepsOuter r → around W i ≤ i → q ≤ around W i → Stays W r i q
-  stays-outer q k g h = record { same = λ D next. fewer q (around W i) (effect-words W D r i next) W h (omega (arith, g, l)) (k .same W D i next l) }
+  pub stays-outer : (q : ℕ) → KeepsOuter r → q ≤ around W i → Stays W r i q
+  stays-outer q k h = record { same = λ D next. fewer q (around W i) (effect-words W D r i next) W h (k .same W D i next l) }
 
   pub follows-near : (f : Finger) → Points W f → Stays W r i (f .at) → Follows W r i f
   follows-near f p s = record {

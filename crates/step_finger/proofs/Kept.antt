@@ -4,12 +4,15 @@ use mathlib.Core.Bool.{Bool, true, false, cond}
 use mathlib.Core.List.{List, [], _∷_, _++_}
 use Prim.Native.Nat.{ℕ, zero, suc, _+_, _≤_, _<_}
 use native.Mathlib.Decide.{decLt}
+use native.Mathlib.Decide.{ℕ-discrete}
 use native.Mathlib.Omega.{arith}
-use lib.ListN.{length, take, getD}
+use lib.Dec.{eqb}
+use lib.ListN.{length, take}
+use lib.Seq.{take-take}
+use borrow.Author.Tests.{ne-eqb}
 use Rattle.mem_words.specs.declared.Word.{Word}
-use Rattle.mem_words.specs.declared.Word.the-variants.{Bad}
-use Rattle.rule_words.specs.Scans.{close, around, up, opens, higher}
-use Rattle.rule_words.proofs.Loops.{close-inside, close-past}
+use Rattle.rule_words.specs.Scans.{close, around}
+use Rattle.rule_words.proofs.Loops.{close-inside, close-past, up-le}
 use Rattle.rule_effects.specs.Effects.{effect-1, effect-2, effect-3, effect-4, effect-5, effect-6, effect-7, effect-8, effect-9, effect-10, effect-11, effect-12, effect-13, effect-14, told, called, composed, revealed, promoted, committed, parted, distributed, flattened}
 use Rattle.rule_rewrite.specs.Rewriting.{effect-words}
 use Rattle.step_finger.specs.Following.{KeepsFront, KeepsOuter}
@@ -24,15 +27,6 @@ pub not-kept : {A : Type 0} → false ≡ true → A
 not-kept e = absurd (let z : _≡_ {A = ℕ} 0 1 = cc in omega arith)
 
 -- a bracket is open around a position before it
-pub up-le : (i : ℕ) (W : List Word) (d : ℕ) → up i W d ≤ i
-unfolding up
-up-le zero W d = omega arith
-up-le (suc i) W d = go (opens (getD W i Bad) d) (up-le i W (higher (getD W i Bad) d))
-  where
-    go : (b : Bool) → up i W (higher (getD W i Bad) d) ≤ i → cond b i (up i W (higher (getD W i Bad) d)) ≤ suc i
-    go true h = omega arith
-    go false h = omega arith
-
 pub around-le : (W : List Word) (i : ℕ) → around W i ≤ i
 unfolding around
 around-le W i = up-le i W 0
@@ -61,6 +55,10 @@ module _ (r : ℕ) where
   unfolding effect-words effect-5
   keeps-5 e = fronts 5 e (record { same = λ W D i next h. front i i W _ (omega arith) h })
 
+  pub keeps-7 : r ≡ 7 → KeepsFront r
+  unfolding effect-words effect-7
+  keeps-7 e = fronts 7 e (record { same = λ W D i next h. front i (close W i + 1) W _ (omega (arith, close-from W i i (omega arith) h)) h })
+
   pub keeps-9 : r ≡ 9 → KeepsFront r
   unfolding effect-words effect-9
   keeps-9 e = fronts 9 e (record { same = λ W D i next h. front i i W _ (omega arith) h })
@@ -80,50 +78,74 @@ module _ (r : ℕ) where
   outers : (k : ℕ) → r ≡ k → KeepsOuter k → KeepsOuter r
   outers k e h = subst KeepsOuter (sym e) h
 
-  pub keeps-1 : r ≡ 1 → KeepsOuter r
+  outer-1 : r ≡ 1 → KeepsOuter r
   unfolding effect-words effect-1 told
-  keeps-1 e = outers 1 e (record {
+  outer-1 e = outers 1 e (record {
     same = λ W D i next h.
         let a = around W i in
         let l : a ≤ length W = omega (arith, around-le W i, h) in
         front a (close W (close W (a + 1) + 1)) W _ (close-from W a (close W (a + 1) + 1) (omega (arith, close-from W a (a + 1) (omega arith) l)) l) l;
   })
 
-  pub keeps-4 : r ≡ 4 → KeepsOuter r
+  outer-4 : r ≡ 4 → KeepsOuter r
   unfolding effect-words effect-4 revealed
-  keeps-4 e = outers 4 e (record {
+  outer-4 e = outers 4 e (record {
     same = λ W D i next h.
         let a = around W i in
         let l : a ≤ length W = omega (arith, around-le W i, h) in
         front a (close W (a + 1)) W _ (close-from W a (a + 1) (omega arith) l) l;
   })
 
-  pub keeps-6 : r ≡ 6 → KeepsOuter r
+  outer-6 : r ≡ 6 → KeepsOuter r
   unfolding effect-words effect-6 promoted
-  keeps-6 e = outers 6 e (record {
+  outer-6 e = outers 6 e (record {
     same = λ W D i next h.
         let a = around W i in
         let l : a ≤ length W = omega (arith, around-le W i, h) in
         front a (close W (a + 1)) W _ (close-from W a (a + 1) (omega arith) l) l;
   })
 
-  pub keeps-7 : r ≡ 7 → KeepsOuter r
-  unfolding effect-words effect-7
-  keeps-7 e = outers 7 e (record {
-    same = λ W D i next h.
-        let a = around W i in
-        let l : a ≤ length W = omega (arith, around-le W i, h) in
-        front a (close W i + 1) W _ (omega (arith, close-from W a i (around-le W i) l)) l;
-  })
-
-  pub keeps-8 : r ≡ 8 → KeepsOuter r
+  outer-8 : r ≡ 8 → KeepsOuter r
   unfolding effect-words effect-8 committed
-  keeps-8 e = outers 8 e (record { same = λ W D i next h. front (around W i) (around W i + 1) W _ (omega arith) (omega (arith, around-le W i, h)) })
+  outer-8 e = outers 8 e (record { same = λ W D i next h. front (around W i) (around W i + 1) W _ (omega arith) (omega (arith, around-le W i, h)) })
 
-  pub keeps-10 : r ≡ 10 → KeepsOuter r
+  outer-10 : r ≡ 10 → KeepsOuter r
   unfolding effect-words effect-10 effect-9
-  keeps-10 e = outers 10 e (record { same = λ W D i next h. front (around W i) (around W i) W _ (omega arith) (omega (arith, around-le W i, h)) })
+  outer-10 e = outers 10 e (record { same = λ W D i next h. front (around W i) (around W i) W _ (omega arith) (omega (arith, around-le W i, h)) })
 
-  pub keeps-12 : r ≡ 12 → KeepsOuter r
+  outer-12 : r ≡ 12 → KeepsOuter r
   unfolding effect-words effect-12 parted
-  keeps-12 e = outers 12 e (record { same = λ W D i next h. front (around W i) (around W i) W _ (omega arith) (omega (arith, around-le W i, h)) })
+  outer-12 e = outers 12 e (record { same = λ W D i next h. front (around W i) (around W i) W _ (omega arith) (omega (arith, around-le W i, h)) })
+
+  -- what keeps the words before the place keeps those before the bracket around it
+  outer-front : KeepsFront r → KeepsOuter r
+  outer-front k = record {
+    same = λ W D i next h.
+        sym (take-take (around W i) i (effect-words W D r i next) (around-le W i)) ∙ ap (take (around W i)) (k .same W D i next h) ∙ take-take (around W i) i W (around-le W i);
+  }
+
+  either : (k : ℕ) → (r ≡ k → KeepsOuter r) → ((r ≡ k → ⊥) → KeepsOuter r) → KeepsOuter r
+  either k y n = go (ℕ-discrete r k)
+    where
+      go : Dec (r ≡ k) → KeepsOuter r
+      go (yes e) = y e
+      go (no e) = n e
+
+  skip : (b : Bool) (x y z : List Word) → b ≡ false → y ≡ z → cond b x y ≡ z
+  skip b x y z e q = ap (λ (c : Bool). cond c x y) e ∙ q
+
+  -- every number that is none of these is taken for 14
+  outer-other : (r ≡ 1 → ⊥) → (r ≡ 2 → ⊥) → (r ≡ 3 → ⊥) → (r ≡ 4 → ⊥) → (r ≡ 5 → ⊥) → (r ≡ 6 → ⊥) → (r ≡ 7 → ⊥) → (r ≡ 8 → ⊥) → (r ≡ 9 → ⊥) → (r ≡ 10 → ⊥) → (r ≡ 11 → ⊥) → (r ≡ 12 → ⊥) → (r ≡ 13 → ⊥) → KeepsOuter r
+  unfolding effect-words effect-14 flattened
+  outer-other a b c d f g h i j k l m n = record {
+    same = λ W D x next y.
+        ap (take (around W x))
+        (skip _ _ _ _ (ne-eqb r 1 a) (skip _ _ _ _ (ne-eqb r 2 b) (skip _ _ _ _ (ne-eqb r 3 c) (skip _ _ _ _ (ne-eqb r 4 d) (skip _ _ _ _ (ne-eqb r 5 f) (skip _ _ _ _ (ne-eqb r 6 g) (skip _ _ _ _ (ne-eqb r 7 h) (skip _ _ _ _ (ne-eqb r 8 i) (skip _ _ _ _ (ne-eqb r 9 j) (skip _ _ _ _ (ne-eqb r 10 k) (skip _ _ _ _ (ne-eqb r 11 l) (skip _ _ _ _ (ne-eqb r 12 m) (skip _ _ _ _ (ne-eqb r 13 n) refl)))))))))))))
+        ∙ front (around W x) x W _ (around-le W x) (omega (arith, around-le W x, y));
+  }
+
+  -- Every rule keeps the words before the bracket around its place.
+  pub keeps-outer : KeepsOuter r
+  keeps-outer =
+      either 1 outer-1 (λ a. either 2 (λ e. outer-front (keeps-2 e)) (λ b. either 3 (λ e. outer-front (keeps-3 e)) (λ c. either 4 outer-4 (λ d. either 5 (λ e. outer-front (keeps-5 e)) (λ f. either 6 outer-6 (λ g. either 7 (λ e. outer-front (keeps-7 e)) (λ h. either 8 outer-8
+      (λ i. either 9 (λ e. outer-front (keeps-9 e)) (λ j. either 10 outer-10 (λ k. either 11 (λ e. outer-front (keeps-11 e)) (λ l. either 12 outer-12 (λ m. either 13 (λ e. outer-front (keeps-13 e)) (λ n. outer-other a b c d f g h i j k l m n)))))))))))))

@@ -8,7 +8,7 @@ ghost use Rattle.mem_parts.specs.Parts.{cut};
 ghost use Rattle.store_words.specs.Contexts.{place-at};
 ghost use Rattle.rule_words.specs.Scans.{around};
 ghost use Rattle.rule_places.specs.Fingers.{Points};
-ghost use Rattle.step_finger.specs.Following.{KeepsFront, KeepsOuter, Stays, Follows};
+ghost use Rattle.step_finger.specs.Following.{KeepsFront, Stays, Follows};
 use read_steps::Place;
 use rule_places::Finger;
 
@@ -25,6 +25,9 @@ fn keeps(r: usize) -> bool
     if r == 5 {
         return true; // a choice-box in place of a statement
     }
+    if r == 7 {
+        return true; // what stands behind a guarded goal goes
+    }
     if r == 9 {
         return true; // failure in place of an and-box
     }
@@ -36,34 +39,6 @@ fn keeps(r: usize) -> bool
     }
     if r == 14 {
         return true; // the goals of an or-box in place of it
-    }
-    false
-}
-
-// Whether it is known that rule `r` leaves the words before the bracket around its place as they are.
-fn keeps_outer(r: usize) -> bool
-    ensures { λ b. ⌜ (b ≡ true → KeepsOuter r) ⌝ }
-{
-    if r == 1 {
-        return true; // the store of the and-box grows
-    }
-    if r == 4 {
-        return true; // its locals do
-    }
-    if r == 6 {
-        return true; // both do
-    }
-    if r == 7 {
-        return true; // guarded goals of the choice-box go
-    }
-    if r == 8 {
-        return true;
-    }
-    if r == 10 {
-        return true; // failure in place of the and-box
-    }
-    if r == 12 {
-        return true; // an or-box in place of it
     }
     false
 }
@@ -82,12 +57,13 @@ fn opens_behind(t: &[u8], q: usize, i: usize) -> bool
     ensures { λ b. ⌜ (b ≡ true → q ≤ around (words (now (t .entry))) i) ⌝ }
 {
     if open_in(t, 3 * q, 3 * i, i - q) == 0 {
-        return false; // none, or it may be another one
+        return false; // it opens at `q` itself or before it: these are not told apart
     }
     true
 }
 
-// Whether a finger at `q` is not far before the place at `i`, and the words before it stay.
+// Whether it is known that the words before a finger at `q` stay. One behind the place at `i`, or far before it, is given up. Every rule
+// leaves the words before the bracket around its place as they are.
 fn stays(t: &[u8], q: usize, r: usize, i: usize) -> bool
     requires { ⌜ i ≤ length (words (now t)) ⌝ }
     ensures { λ b. ⌜ (b ≡ true → Stays (words (now (t .entry))) r i q) ⌝ }
@@ -96,19 +72,16 @@ fn stays(t: &[u8], q: usize, r: usize, i: usize) -> bool
         return false;
     }
     if 64 < i - q {
-        return false; // far: one at the place is better
+        return false; // far: one at the place is better, and to look back so far costs too much
     }
     if keeps(r) {
         return true;
     }
-    if keeps_outer(r) {
-        return opens_behind(t, q, i);
-    }
-    false
+    opens_behind(t, q, i)
 }
 
-// A finger in what rule `r` leads to from the place `p`, which stands at `i`: the one that there was, or one at the place, or one at
-// the first word.
+// A finger in what rule `r` leads to from the place `p`, which stands at `i`: the one that there was, where it stays; else one at the place,
+// where the rule leaves the words before it; else one at the first word.
 pub fn after(t: &[u8], near: Finger, r: usize, i: usize, p: Place) -> Finger
     requires { ⌜ Points (words (now t)) near × (i ≡ place-at (words (now t)) (p .0)) × (i < length (words (now t))) ⌝ }
     ensures { λ f. ⌜ Follows (words (now (t .entry))) r i f ⌝ }

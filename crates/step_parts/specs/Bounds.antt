@@ -1,4 +1,5 @@
--- An upper bound of the parts of x words in S that rule r built at i of other words, u being one of those. Assumes nothing.
+-- A number for the x words in S that rule r built at i of words with at most u parts. That it is an upper bound of their parts, where it is at most
+-- 2,048, is a law (step_store/proofs/Bounded: `bound-fits`). Assumes nothing.
 use mathlib.Core.Path.{_≡_}
 use mathlib.Core.Bool.{true, false}
 use mathlib.Core.List.{List}
@@ -25,5 +26,5 @@ pub record CanBound (S : List ℕ) (x u r i : ℕ) : Type 0 where
 -- the rule adds none; it adds at most those of what it put at i; nothing is known
 pub data Bound (S : List ℕ) (x u r i q : ℕ) : Type 0 where
   kept : adds-parts r ≡ false → q ≡ u → Bound S x u r i q
-  grown : itself r ≡ true → x ≤ 28672 → q ≡ u + piece-parts (take x (words S)) i → Bound S x u r i q
+  grown : itself r ≡ true → q ≡ u + piece-parts (take x (words S)) i → Bound S x u r i q
   unknown : 2048 < q → Bound S x u r i q

@@ -30,7 +30,7 @@ fn piece(ws: &[u8], i: usize) -> usize
 
 // An upper bound of the parts of the first `x` words of `out`, which rule `r` built at `i` of words with at most `u` parts; more than 2,048
 // where none is known. A rule that adds no parts keeps `u`. One that rewrites what stands at its place adds at most the parts of what
-// it puts there.
+// it puts there. That it is one is said where the rules are (step_store/proofs/Bounded: `bound-fits`).
 pub fn bound(out: &[u8], x: usize, u: usize, r: usize, i: usize) -> usize
     requires { ⌜ CanBound (now out) x u r i ⌝ }
     ensures { λ q. ⌜ Bound (now (out .entry)) x u r i q ⌝ }

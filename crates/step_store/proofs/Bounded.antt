@@ -1,5 +1,5 @@
 -- The bound of the parts, from a store to what a step built and left of it. Assumes nothing.
-use mathlib.Core.Path.{_≡_, refl, ap, sym, _∙_}
+use mathlib.Core.Path.{_≡_, ap, sym, _∙_}
 use mathlib.Core.List.{List}
 use mathlib.Core.Option.{some, Option·some-injective}
 use Prim.Native.Nat.{ℕ, _+_, _≤_, _<_}
@@ -13,7 +13,6 @@ use Rattle.theory.proofs.Reflect.{formed-iff}
 use Rattle.mem_words.specs.declared.Word.{Word}
 use Rattle.mem_words.specs.Words.{words}
 use Rattle.store_form.specs.State.{State, program-of, names-of, config-of}
-use Rattle.store_calls.specs.Outcomes.{held}
 use Rattle.store_calls.proofs.Any.{held-stands}
 use Rattle.store_parts.specs.declared.Among.the-variants.{Others}
 use Rattle.store_parts.specs.Counting.{parts-in}
@@ -68,7 +67,7 @@ module _ (b : List ℕ) (W D : List Word) (next : ℕ) (v : Viewed b W D next) (
       let R = g s m in
       let x = effect-fewer (program-of s) (s .config .next) (k .rule) (R .at-place) (R .takes .row) (R .after) (R .takes .is-row) (R .takes .fits) (R .leads) a in
       omega (arith, e, x, w .few s (o .holds), parts-next b W D next v k i f g c h n S t s (o .holds) l, ap parts (place-is W D s m (R .at-place) i (R .takes .stands)))
-  bound-fits u q w (grown a z e) y l =
+  bound-fits u q w (grown a e) y l =
       let s = o .state in
       let m = v .meant s (o .holds) in
       let x = piece-most W D s m k i (g s m) a in

@@ -1,6 +1,6 @@
 -- A rule that rewrites what stands at its place puts a piece there: it begins where the place stood, it closes, and the configuration
 -- has at most its parts more than before. Assumes nothing.
-use mathlib.Core.Path.{_≡_, refl, ap, sym, _∙_, subst}
+use mathlib.Core.Path.{_≡_, ap, _∙_, subst}
 use mathlib.Core.Bool.{true}
 use mathlib.Core.List.{List, [], _++_}
 use Prim.Native.Nat.{ℕ, _+_, _≤_, _<_}

@@ -49,8 +49,8 @@ pub fn commit(b: &mut [u8], src: &[u8], n: usize, next: usize, old: usize)
     store_regions::put_region(b, 159837, e, src, 3 * n);
 }
 
-// At least the parts of the first `n` words of `out`, and exactly so many where it is more than 2,048. They are counted only where `most`, if it
-// is within the limit an upper bound of them, is not.
+// At least the parts of the first `n` words of `out`; more than 2,048 only where they are. Where `most` is within the limit it is an upper bound
+// of them and is handed back; else they are counted.
 fn counted(out: &[u8], n: usize, most: usize) -> usize
     requires { ⌜ (3 * n ≤ length (now out)) × (n ≤ 1048576) × (most ≤ most-parts → parts-in Others (take n (words (now out))) ≤ most) ⌝ }
     ensures { λ p. ⌜ (parts-in Others (take n (words (now (out .entry)))) ≤ p) × (most-parts < p → most-parts < parts-in Others (take n (words (now (out .entry))))) ⌝ }

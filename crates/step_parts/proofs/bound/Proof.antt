@@ -35,7 +35,7 @@ add-result : tie.Need-add-result
 add-result c = omega (arith, c .before .before .before .before .before .before .before .before .pre .few, c .piece .ensures .1)
 
 returns-3 : tie.Need-returns-3
-returns-3 c = grown (sym (c .before .before .before .at-itself .ensures) ∙ c .before .before .if3 .taken) (omega (arith, c .before .before .before .before .if2 .left)) (first-piece (c .before .before .before .before .before .before .before .before .args .out .now) (c .before .before .before .before .before .before .before .before .args .x) (c .before .before .before .before .before .before .before .before .args .u) (c .before .before .before .before .before .before .before .before .args .r) (c .before .before .before .before .before .before .before .before .args .i) (c .before .before .before .before .before .before .before .before .pre) (omega (arith, c .before .before .before .before .if2 .left)) _ (c .piece .ensures .0))
+returns-3 c = grown (sym (c .before .before .before .at-itself .ensures) ∙ c .before .before .if3 .taken) (first-piece (c .before .before .before .before .before .before .before .before .args .out .now) (c .before .before .before .before .before .before .before .before .args .x) (c .before .before .before .before .before .before .before .before .args .u) (c .before .before .before .before .before .before .before .before .args .r) (c .before .before .before .before .before .before .before .before .args .i) (c .before .before .before .before .before .before .before .before .pre) (omega (arith, c .before .before .before .before .if2 .left)) _ (c .piece .ensures .0))
 
 returns-4 : tie.Need-returns-4
 returns-4 c = unknown (omega arith)
