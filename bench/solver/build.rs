@@ -1,4 +1,4 @@
-//! Links the solver that `rt staticlib work_bench` wrote.
+//! Links the solver that `tests/archive work_bench` built.
 
 fn main() {
     let top = std::env::var("CARGO_MANIFEST_DIR").expect("set by cargo");

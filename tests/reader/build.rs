@@ -1,4 +1,4 @@
-//! Links the reader that `rt staticlib read_bench` wrote.
+//! Links the reader that `tests/archive read_bench` built.
 
 fn main() {
     let top = std::env::var("CARGO_MANIFEST_DIR").expect("set by cargo");

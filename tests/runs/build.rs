@@ -1,4 +1,4 @@
-//! Links the library that `rt staticlib aklcheck` wrote.
+//! Links the library that `tests/library` built.
 
 fn main() {
     let top = std::env::var("CARGO_MANIFEST_DIR").expect("set by cargo");

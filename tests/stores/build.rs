@@ -1,4 +1,4 @@
-//! Links the check that `rt staticlib check_call` wrote.
+//! Links the check that `tests/archive check_call` built.
 
 fn main() {
     let top = std::env::var("CARGO_MANIFEST_DIR").expect("set by cargo");

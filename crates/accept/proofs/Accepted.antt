@@ -68,6 +68,7 @@ module _ (P : Program) (c : Config) where
   around_iff pl a f = (λ t. to_it (place c a) refl t, λ h. subst (λ o. T (stable_around P c pl o)) (sym h.is_place) ((and_T (holds_box h.around (box_of pl)) (stable P c h.around)).1 ((holds_T h.around pl (place_whole c a h.around h.is_place) f).1 h.contains, (stable_iff P c h.around (place_whole c a h.around h.is_place)).1 h.stable)))
     where
       to_it : (o : Option Place) → place c a ≡ o → T (stable_around P c pl o) → StableAround P c pl a
+      to_it none e t = elim t [ ]
       to_it (some q) e t =
           let k = (and_T (holds_box q (box_of pl)) (stable P c q)).0 t in
           record { around = q; is_place = e; contains = (holds_T q pl (place_whole c a q e) f).0 k.0; stable = (stable_iff P c q (place_whole c a q e)).0 k.1 }
@@ -81,6 +82,7 @@ module _ (P : Program) (c : Config) where
   argument_iff r a pl f = go (eqb r splitting) (λ t. eqb→eq r splitting t) (λ e. subst (λ x. T (eqb x splitting)) (sym e) (eqb_refl splitting))
     where
       known : (o : Option Place) → T (stable_around P c pl o) → T (is_some o)
+      known none t = elim t [ ]
       known (some q) t = tt
 
       go : (b : Bool) → (T b → r ≡ splitting) → (r ≡ splitting → T b) → (T (if b (is_some (place c a)) (eqb a 0)) × T (if b (stable_around P c pl (place c a)) true)) ↔ Argument r a pl
@@ -131,12 +133,15 @@ module _ (limit : ℕ) (P : Program) (c : Config) (s : Step) (d : Config) where
       leads_to = effect_complete P c.next h.transition ∙ ap (λ g. some (record { root = g; next = d.next })) (sym h.result)
 
       by_effect : (b : Bool) → T b → (o : Change) → o ≡ some d → after_condition limit b o ≡ ok d
+      by_effect false t o e = elim t [ ]
       by_effect true t o e = subst (λ x. after_condition limit true x ≡ ok d) (sym e) ((limits_iff limit d d).1 (refl, h.numbers_left, h.fit))
 
       by_kind : (b : Bool) → T b → elim b as (λ x. Result Config) [ false ↦ refused 12 | true ↦ after_condition limit (argument_stable P c s.rule pl s.argument) (effect P c.next s.rule pl) ] ≡ ok d
+      by_kind false t = elim t [ ]
       by_kind true t = by_effect (argument_stable P c s.rule pl s.argument) args.1 (effect P c.next s.rule pl) leads_to
 
       with_argument : (w : Row) → T (fits_row w pl) → (b : Bool) → T b → after_place limit P c s.rule s.argument w b (some pl) ≡ ok d
+      with_argument w k false t = elim t [ ]
       with_argument w k true t = by_kind (fits_row w pl) k
 
       by_place : (w : Row) → T (fits_row w pl) → after_place limit P c s.rule s.argument w (argument_fits c s.rule s.argument) (place c s.place) ≡ ok d

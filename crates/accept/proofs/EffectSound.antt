@@ -66,6 +66,8 @@ module _ (P : Program) (N : ℕ) where
         found (Tr.promotion χ vs σ l r op us τ b (elim ((or_T (is_wait op) (quiet? us (env χ ++ σ) τ)).0 h.0) [ inl t ↦ inl (op_wait op t) | inr t ↦ inr ((quiet_iff us (env χ ++ σ) τ).0 t) ])) d h.1
       where
         op_wait : (o : Op) → T (is_wait o) → o ≡ wait
+        op_wait cond t = elim t [ ]
+        op_wait commit t = elim t [ ]
         op_wait wait t = refl
 
     -- 10
@@ -99,6 +101,7 @@ module _ (P : Program) (N : ℕ) where
         found (Tr.condition χ l r us τ b ((quiet_iff us (env χ) τ).0 k.0) (some_of r k.1)) d h.1
       where
         some_of : (ns : Nodes guarded) → T (non_empty ns) → NotEmpty ns
+        some_of nil t = elim t [ ]
         some_of (cons n ns) t = tt
 
     eight : (op : Op) (l r : Nodes guarded) (g : Node goal) (b : Stmt) (d : Config) → effect P N 8 (at (in_choice χ op l r) (guard g b)) ≡ some d → Found 8 (at (in_choice χ op l r) (guard g b)) d
@@ -113,6 +116,7 @@ module _ (P : Program) (N : ℕ) where
         found (Tr.committing χ l r us τ b ((quiet_iff us (env χ) τ).0 k.0) (elim ((or_T (non_empty l) (non_empty r)).0 k.1) [ inl t ↦ inl (some_of l t) | inr t ↦ inr (some_of r t) ])) d h.1
       where
         some_of : (ns : Nodes guarded) → T (non_empty ns) → NotEmpty ns
+        some_of nil t = elim t [ ]
         some_of (cons n ns) t = tt
 
     eleven : (op : Op) (l r : Nodes guarded) (g : Node goal) (b : Stmt) (d : Config) → effect P N 11 (at (in_choice χ op l r) (guard g b)) ≡ some d → Found 11 (at (in_choice χ op l r) (guard g b)) d
@@ -133,6 +137,11 @@ module _ (P : Program) (N : ℕ) where
 
   statement_found : (χ : Ctx goal) (vs : List ℕ) (σ : Store) (l r : Nodes member) (s : Stmt) (j : ℕ) (d : Config) → In j (rules_of (statement_kind s)) → effect P N j (at (in_and χ vs σ l r) (stmt s)) ≡ some d → Found j (at (in_and χ vs σ l r) (stmt s)) d
   unfolding effect rules_of statement_kind
+  statement_found χ vs σ l r (atom c) j d (inr i) e = elim i [ ]
+  statement_found χ vs σ l r (call p xs) j d (inr i) e = elim i [ ]
+  statement_found χ vs σ l r (comp a b) j d (inr i) e = elim i [ ]
+  statement_found χ vs σ l r (hide n a) j d (inr i) e = elim i [ ]
+  statement_found χ vs σ l r (choice op cs) j d (inr i) e = elim i [ ]
   statement_found χ vs σ l r (atom c) j d (inl i) e = is_rule 1 (at (in_and χ vs σ l r) (stmt (atom c))) d (λ f. found (Tr.constraint_atom χ vs σ l r c) d f) j i e
   statement_found χ vs σ l r (call p xs) j d (inl i) e = is_rule 2 (at (in_and χ vs σ l r) (stmt (call p xs))) d (λ f. call_found χ vs σ l r p xs d (defined P p (size xs)) refl f) j i e
   statement_found χ vs σ l r (comp a b) j d (inl i) e = is_rule 3 (at (in_and χ vs σ l r) (stmt (comp a b))) d (λ f. found (Tr.composition χ vs σ l r a b) d f) j i e
@@ -143,6 +152,7 @@ module _ (P : Program) (N : ℕ) where
   unfolding effect rules_of or_kind
   or_found top ns j d i e = absurd i
   or_found (in_guard χ b) ns j d i e = absurd i
+  or_found (in_or χ l r) ns j d (inr i) e = elim i [ ]
   or_found (in_or χ l r) ns j d (inl i) e = is_rule 14 (at (in_or χ l r) (or ns)) d (λ f. found (Tr.flattening χ l r ns) d f) j i e
 
   by_kind : (pl : Place) (j : ℕ) (d : Config) → In j (rules_of (kind_at pl)) → effect P N j pl ≡ some d → Found j pl d
@@ -155,6 +165,9 @@ module _ (P : Program) (N : ℕ) where
   by_kind (at (in_choice χ op l r) (guard g b)) j d (inr (inl i)) e = is_rule 8 (at (in_choice χ op l r) (guard g b)) d (eight χ op l r g b d) j i e
   by_kind (at (in_choice χ op l r) (guard g b)) j d (inr (inr (inl i))) e = is_rule 11 (at (in_choice χ op l r) (guard g b)) d (eleven χ op l r g b d) j i e
   by_kind (at (in_choice χ op l r) (guard g b)) j d (inr (inr (inr (inl i)))) e = is_rule 13 (at (in_choice χ op l r) (guard g b)) d (thirteen χ op l r g b d) j i e
+  by_kind (at χ (and vs σ ms)) j d (inr i) e = elim i [ ]
+  by_kind (at (in_and χ vs σ l r) (choice_box op gs)) j d (inr (inr (inr i))) e = elim i [ ]
+  by_kind (at (in_choice χ op l r) (guard g b)) j d (inr (inr (inr (inr i)))) e = elim i [ ]
   by_kind (at χ (and vs σ ms)) j d (inl i) e = is_rule 9 (at χ (and vs σ ms)) d (λ f. let h = provided_inv (not (satisfiable? (env χ ++ σ))) _ d f in found (Tr.environment_failure χ vs σ ms (λ w. (not_T (satisfiable? (env χ ++ σ))).0 h.0 ((satisfiable_iff (env χ ++ σ)).1 w))) d h.1) j i e
   by_kind (at χ (or ns)) j d i e = or_found χ ns j d i e
 

@@ -2,7 +2,7 @@
 use mathlib.Core.Path.{◌≡◌, refl, sym, subst}
 use mathlib.Core.Logic.{◌↔◌, inl, inr}
 use mathlib.Core.List.{List, [], ◌∷◌, ◌++◌}
-use mathlib.Core.Bool.{Bool, true, ◌&&◌, ◌||◌, not}
+use mathlib.Core.Bool.{Bool, true, ◌&&◌, ◌||◌, not, false}
 use mathlib.Core.Option.{Option, some, none}
 use Prim.Native.Nat.{ℕ, zero, suc, ◌<◌}
 use native.Mathlib.Omega.{arith}
@@ -78,6 +78,7 @@ rule_of t r w e k =
 -- From the relation to the function.
 
 pub provided_yes : (b : Bool) (c : Change) → T b → provided b c ≡ c
+provided_yes false c t = elim t [ ]
 provided_yes true c t = refl
 
 -- what a transition leads to

@@ -60,12 +60,14 @@ a_not_b e = let z : ◌≡◌ {A = ℕ} 97 98 = cc e in omega arith
 
 lost : (op : Op) → Solution [] 1 (only op) all_a → ⊥
 unfolding only config first all_a keep b
+lost op (inr i) = elim i [ ]
 lost op (inl h) = go h.3.0.0
   where
     ρ : Asg
     ρ = h.0
 
     go : Any (one first) (Atoms []) 1 ρ nothing → ⊥
+    go (inr i) = elim i [ ]
     go (inl g) = a_not_b (h.1 0 (λ i. i) ∙ g.0.1 0 (λ i. i) ∙ g.0.4)
 
 -- Each loses a solution.

@@ -88,6 +88,7 @@ twelve_mode w e = subst (λ o. Mode-of o → ⊥) e (λ h. h)
 
 any_nth : {A : Type 0} (p : A → Bool) (l : List A) → T (any p l) → (j : ℕ) × (x : A) × (nth l j ≡ some x) × T (p x)
 unfolding any nth
+any_nth {A = A} p [] h = elim h [ ]
 any_nth p (y ∷ l) h = elim ((or_T (p y) (any p l)).0 h) [ inl t ↦ (0, y, refl, t) | inr t ↦ let w = any_nth p l t in (suc w.0, w.1, w.2, w.3) ]
 
 nth_any : {A : Type 0} (p : A → Bool) (l : List A) (j : ℕ) (x : A) → nth l j ≡ some x → T (p x) → T (any p l)
@@ -98,11 +99,13 @@ nth_any p (y ∷ l) (suc j) x e t = (or_T (p y) (any p l)).1 (inr (nth_any p l j
 
 in_any : (p : ℕ → Bool) (l : List ℕ) (x : ℕ) → In x l → T (p x) → T (any p l)
 unfolding any
+in_any p [] x i t = elim i [ ]
 in_any p (y ∷ l) x (inl e) t = (or_T (p y) (any p l)).1 (inl (subst (λ z. T (p z)) e t))
 in_any p (y ∷ l) x (inr i) t = (or_T (p y) (any p l)).1 (inr (in_any p l x i t))
 
 any_in : (p : ℕ → Bool) (l : List ℕ) → T (any p l) → (x : ℕ) × T (p x)
 unfolding any
+any_in p [] h = elim h [ ]
 any_in p (y ∷ l) h = elim ((or_T (p y) (any p l)).0 h) [ inl t ↦ (y, t) | inr t ↦ any_in p l t ]
 
 pub inside_T : {k : Kind} (χ : Ctx k) (n : Node k) (p : ℕ) → T (inside χ n p) ↔ Inside χ n p
@@ -112,6 +115,7 @@ inside_T χ n p =
     (λ h. (leb→le (place_number χ) p (a.0 h).0, ltb→lt p (place_number χ + count n) (a.0 h).1), λ h. a.1 (le→leb (place_number χ) p h.0, lt→ltb p (place_number χ + count n) h.1))
 
 is_some_of : (c : Change) → T (is_some c) → (d : Config) × (c ≡ some d)
+is_some_of none h = elim h [ ]
 is_some_of (some d) h = (d, refl)
 
 quiet_each : (vs : List ℕ) (e : Store) (l : List Store) → T (all (quiet? vs e) l) ↔ Each (Quiet vs e) l
@@ -140,6 +144,7 @@ module _ (P : Program) (c : Config) {k : Kind} (χ : Ctx k) (n : Node k) where
   disturbs_row r pl h = go (rule_row r) refl h
     where
       go : (o : Option Row) → rule_row r ≡ o → T (row_disturbs P c χ n r pl o) → (w : Row) × (rule_row r ≡ some w) × T (tests r pl w)
+      go none e t = elim t [ ]
       go (some w) e t = (w, e, t)
 
   row_disturbs_it : (r : ℕ) (pl : Place) (w : Row) → rule_row r ≡ some w → T (tests r pl w) → T (disturbs P c χ n r pl)

@@ -76,7 +76,7 @@ module _ (c : Config) where
   same_count χ n m e f = ap count_at (some-injective (at χ m) (at χ n) (sym (place_of χ m c f) ∙ place_of χ n c e))
 
   -- the places of the inner goal are among those of the outer one
-  within : {k j : Kind} (χ : Ctx k) (n : Node k) {χ' : Ctx j} (m : Node j) → plug χ n ≡ c.root → plug χ' m ≡ c.root → AtOrIn χ j χ' →
+  within : {k : Kind} (χ : Ctx k) {j : Kind} (n : Node k) {χ' : Ctx j} (m : Node j) → plug χ n ≡ c.root → plug χ' m ≡ c.root → AtOrIn χ j χ' →
       (place_number χ ≤ place_number χ') × (place_number χ' + count m ≤ place_number χ + count n)
   unfolding plug place_number count
   within χ n m e f same_goal = (omega arith, omega (arith, same_count χ n m e f))

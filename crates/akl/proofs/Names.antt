@@ -26,6 +26,7 @@ same_eq (a ∷ x) (b ∷ y) t = go (eqb a b) refl t (same_eq x y)
 
 -- the same of `T`
 holds : (b : Bool) → T b → b ≡ true
+holds false t = elim t [ ]
 holds true t = refl
 
 held : (b : Bool) → b ≡ true → T b

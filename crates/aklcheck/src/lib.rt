@@ -1,4 +1,6 @@
 // The library for a host: all calls, under the names that C links. Each is the proved call of its crate, with its contract.
+#![tactic(auto)]
+
 ghost use Rattle.step_meant.specs.Deciding.{step_of};
 ghost use Rattle.start_call.specs.Called.{StartCalled};
 ghost use Rattle.call_step.specs.Called.{StepCalled};

@@ -1,4 +1,6 @@
 // The state of a configuration, how many answers it has, and where they stand in its words.
+#![tactic(auto)]
+
 ghost use Rattle.mem_words.specs.Words.{words};
 ghost use Rattle.work_tables.specs.Tables.{Laid};
 ghost use Rattle.rule_solve.specs.Idle.{Idle};

@@ -6,7 +6,8 @@ use Prim.Native.Nat.{ℕ, zero, suc, ◌+◌, ◌/◌, ◌%◌, ◌<◌, ◌≤�
 use native.Mathlib.Omega.{arith}
 use lib.ListN.{length, get_or, set, take, drop, length-append, length-set}
 use lib.Seq.{length-take-le, take-suc, set_at, append_snoc}
-use Rattle.answer_emit.specs.Put.{put, put_none, Filled}
+use Rattle.answer_emit.specs.Put.{put, Filled}
+use Rattle.answer_emit.proofs.Put.{put_none}
 use Rattle.answer_emit.specs.Digits.{digits, length_digits}
 
 -- The loop: of T the bytes P are left, which end at e; those behind them are written.

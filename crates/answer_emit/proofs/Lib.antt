@@ -3,3 +3,4 @@ pub mod Backwards
 pub mod Spelling
 pub mod Ways
 pub mod Marks
+pub mod Put

@@ -4,7 +4,8 @@ use mathlib.Core.List.{List, [], ◌∷◌}
 use mathlib.Core.Bool.{Bool}
 use Prim.Native.Nat.{ℕ}
 use Rattle.akl.specs.Base.{bytes, bytes_from}
-use Rattle.answer_emit.specs.Put.{Put, put_then}
+use Rattle.answer_emit.specs.Put.{Put}
+use Rattle.answer_emit.proofs.Put.{put_then}
 
 -- a mark of one byte is put as that byte (by put-as)
 pub underscore : (95 ∷ []) ≡ bytes "_"

@@ -1,5 +1,7 @@
 // The pieces of an answer's text put into a lent slice, or, where `write` is false, only counted. Each function takes where its piece
 // begins and hands back where it ends: the slice's length + 1 where it does not fit.
+#![tactic(auto)]
+
 ghost use Rattle.std.specs.Prelude.{◌≡◌, ◌∷◌, [], ◌+◌, ◌<◌, ◌≤◌, length};
 ghost use Rattle.akl.specs.Base.{bytes, decimal};
 ghost use Rattle.mem_numbers.specs.Numbers.{triples};

@@ -1,14 +1,14 @@
 -- The lengths that are known while an answer is measured, behind what the traversal keeps. Assumes nothing.
 --   from      table                                                 entries   bytes each
 --   479,232   one more than the length of each application's text     2,048   4
-use Rattle.std.specs.Prelude.{◌≡◌, refl, List, ℕ, ◌+◌, ◌-◌, ◌*◌, ◌/◌, length, get_or}
+use Rattle.std.specs.Prelude.{◌≡◌, refl, List, ℕ, ◌+◌, ◌-◌, ◌*◌, get_or}
 use Rattle.std.proofs.Common.{ap, sym, ◌∙◌, subst, arith}
-use Rattle.mem_numbers.specs.Numbers.{shorts, triples, longs, length_longs, zero_longs}
+use Rattle.mem_numbers.specs.Numbers.{shorts, triples, longs, zero_longs}
 use Rattle.mem_numbers.specs.Stored.{Stored}
 use Rattle.mem_words.specs.declared.Word.{Word}
 use Rattle.mem_words.specs.Words.{words}
-use Rattle.mem_parts.specs.Parts.{cut, length_cut, Outside, outside_wide, outside_then, cut_left, cut_right, CanGet, CanSet, Set4, Zeroed}
-use Rattle.work_tables.specs.Tables.{cells_of, pos_of, log_of, Laid, Logged, CanRead, CanWrite}
+use Rattle.mem_parts.specs.Parts.{cut, Outside, outside_wide, outside_then, cut_left, cut_right, Set4, Zeroed}
+use Rattle.work_tables.specs.Tables.{cells_of, pos_of, log_of, Laid, Logged}
 use Rattle.answer_walk.specs.Numbered.{Numbered}
 use Rattle.answer_stack.specs.Slots.{numbers_of, places_of, begun_of, Answered}
 
@@ -50,13 +50,6 @@ counted_at {L} {X} k Q l h p q = subst (λ (W : List Word). Q W (pos_of L) (cell
 pub counted_to : {L X : List ℕ} (k : ℕ) (Q : List Word → List ℕ → List ℕ → Type 0) → Logged k → Laid L → Counted L X → Q (log_of k L) (pos_of L) (cells_of L) → Q (log_of k X) (pos_of X) (cells_of X)
 counted_to {L} {X} k Q l h p q = subst (λ (W : List Word). Q W (pos_of X) (cells_of X)) (sym (counted_log k l h p)) (subst (λ (P : List ℕ). Q (log_of k L) P (cells_of X)) (sym (counted_pos h p)) (subst (Q (log_of k L) (pos_of L)) (sym (counted_cell h p)) q))
 
--- ---------------------------------------------------------------------------------------------
--- One entry is read or written.
-
-pub length_known : {L : List ℕ} → Laid L → length (known_of L) ≡ 2048
-unfolding known_of
-length_known {L} h = let k = h.long in let n : length (cut 479232 487424 L) ≡ 8192 = length_cut 479232 487424 L (omega arith) in length_longs (cut 479232 487424 L) ∙ ap (λ (n : ℕ). n / 4) n
-
 pub record PutKnown (L : List ℕ) (k v : ℕ) (X : List ℕ) : Type 0 where
   pub known : Stored (known_of L) k v (known_of X)
   pub number : numbers_of X ≡ numbers_of L
@@ -67,14 +60,6 @@ pub record PutKnown (L : List ℕ) (k v : ℕ) (X : List ℕ) : Type 0 where
 -- no length is known
 pub record NoneKnown (G : List ℕ) : Type 0 where
   pub zero : (k : ℕ) → get_or G k 0 ≡ 0
-
-pub get_known : {L : List ℕ} {k : ℕ} → CanRead L 2048 k → CanGet 479232 487424 L (longs (cut 479232 487424 L)) k
-unfolding known_of
-get_known h = record { le = omega arith; fits = omega (arith, h.laid.long); inside = omega (arith, h.inside, length_known h.laid) }
-
-pub set_known : {L : List ℕ} {k v : ℕ} → CanWrite L 2048 k 4294967296 v → CanSet 479232 487424 L (longs (cut 479232 487424 L)) k 4294967296 v
-unfolding known_of
-set_known h = record { le = omega arith; fits = omega (arith, h.laid.long); inside = omega (arith, h.inside, length_known h.laid); small = h.small }
 
 pub put_known : {L X : List ℕ} {k v : ℕ} → Laid L → Set4 479232 487424 L k v X → PutKnown L k v X
 unfolding known_of numbers_of places_of begun_of

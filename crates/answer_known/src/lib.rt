@@ -1,4 +1,6 @@
 // Accessors of the lengths that are known while an answer is measured: one entry for each application.
+#![tactic(auto)]
+
 ghost use Rattle.std.specs.Prelude.{[]};
 ghost use Rattle.mem_numbers.specs.Numbers.{Got};
 ghost use Rattle.answer_walk.specs.Numbered.{Numbered};

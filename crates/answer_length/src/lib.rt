@@ -1,4 +1,6 @@
 // The length of an answer's text, counted no further than a bound. Each application is entered once, however often the text shows it.
+#![tactic(auto)]
+
 ghost use Rattle.std.specs.Prelude.{◌≡◌, false, map, [], ◌<◌, length};
 ghost use Rattle.akl.specs.Base.{range};
 ghost use Rattle.akl.specs.Answers.{terms, line_text};

@@ -15,7 +15,8 @@ use Rattle.work_tables.specs.Tables.{cells_of, pos_of, log_of, Laid, Logged}
 use Rattle.answer_walk.specs.Line.{terms_from, Lining}
 use Rattle.answer_walk.specs.Numbered.{Numbered}
 use Rattle.answer_walk.proofs.Lines.{binding, line_begin, line_more, line_last}
-use Rattle.answer_emit.specs.Put.{Put, put_nothing, put_then, put_as}
+use Rattle.answer_emit.specs.Put.{Put}
+use Rattle.answer_emit.proofs.Put.{put_nothing, put_then, put_as}
 use Rattle.answer_stack.specs.Slots.{Answered, answered_at, answered_to}
 use Rattle.answer_turn.specs.Turning.{term_in, Shown}
 use Rattle.answer_print.specs.Printing.{CanPrint, Printed}

@@ -1,4 +1,6 @@
 // The text of an answer put into a lent slice, or only counted: its bindings, one behind the other.
+#![tactic(auto)]
+
 ghost use Rattle.std.specs.Prelude.{◌≡◌, map, [], ◌<◌, length};
 ghost use Rattle.akl.specs.Base.{range};
 ghost use Rattle.akl.specs.Answers.{terms, line_text};

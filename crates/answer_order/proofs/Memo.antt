@@ -20,6 +20,7 @@ use Rattle.answer_order.specs.Order.{BoundTo}
 use Rattle.answer_order.specs.Memo.{Measured, Memo, Done}
 
 in_left : (y : ℕ) (a b : List ℕ) → In y a → In y (a ++ b)
+in_left y [] b i = elim i [ ]
 in_left y (x ∷ a) b (inl e) = inl e
 in_left y (x ∷ a) b (inr i) = inr (in_left y a b i)
 

@@ -1,1 +1,2 @@
 // Applications in argument-first order: definitions and laws. No code.
+#![tactic(auto)]

@@ -13,7 +13,8 @@ use Rattle.answer_walk.specs.Numbered.{Numbered}
 use Rattle.answer_walk.specs.Stack.{frames, stacked, Child}
 use Rattle.answer_walk.proofs.Turns.{begin, done_text, done_seen}
 use Rattle.answer_walk.proofs.Heights.{stack_none}
-use Rattle.answer_emit.specs.Put.{Put, put_nothing, put_then, put_as}
+use Rattle.answer_emit.specs.Put.{Put}
+use Rattle.answer_emit.proofs.Put.{put_nothing, put_then, put_as}
 use Rattle.work_tables.specs.Tables.{cells_of, pos_of, log_of, Laid, Logged}
 use Rattle.answer_stack.specs.Slots.{Answered, answered_at, answered_to}
 use Rattle.answer_turn.specs.Turning.{term_in, Shown, Run, Ready, Turned, Next, left}

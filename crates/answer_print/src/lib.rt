@@ -1,4 +1,6 @@
 // The text of a variable's term, put into a lent slice or only counted.
+#![tactic(auto)]
+
 ghost use Rattle.mem_numbers.specs.Numbers.{triples};
 ghost use Rattle.work_tables.specs.Tables.{cells_of, pos_of, log_of, Laid, Logged};
 ghost use Rattle.answer_stack.specs.Slots.{numbers_of, Answered};

@@ -51,6 +51,7 @@ unfolding entry
 entry_in r s i = go (elem r s) ((elem_In r s).1 i)
   where
     go : (b : Bool) → True b → if b (suc (position r s)) 0 ≡ suc (position r s)
+    go false t = elim t [ ]
     go true t = refl
 
 pub cell_is : {T : List ℕ} {x r d : ℕ} → Found T x r → d ≡ get_or T r 0 → d ≡ cell_of T x

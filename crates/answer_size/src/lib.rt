@@ -1,4 +1,6 @@
 // The length of a term's text, counted no further than a bound, by what is known of its arguments.
+#![tactic(auto)]
+
 ghost use Rattle.std.specs.Prelude.{◌≡◌, ◌+◌, ◌<◌, drop};
 ghost use Rattle.mem_numbers.specs.Numbers.{triples};
 ghost use Rattle.solve_fields.specs.Read.{args_of, args_at};

@@ -6,7 +6,7 @@
 --   475,136   the stack: how many arguments of each were begun        2,048   2
 use Rattle.std.specs.Prelude.{◌≡◌, refl, List, ℕ, ◌+◌, ◌-◌, ◌*◌, ◌/◌, ◌<◌, length, get_or}
 use Rattle.std.proofs.Common.{ap, sym, ◌∙◌, subst, arith}
-use Rattle.mem_numbers.specs.Numbers.{shorts, triples, longs, length_shorts, length_longs, zero_shorts}
+use Rattle.mem_numbers.specs.Numbers.{shorts, triples, longs, length_shorts, zero_shorts}
 use Rattle.mem_numbers.specs.Stored.{Stored}
 use Rattle.mem_words.specs.declared.Word.{Word}
 use Rattle.mem_words.specs.Words.{words}
@@ -56,10 +56,6 @@ pub length_numbers : {L : List ℕ} → Laid L → length (numbers_of L) ≡ 655
 unfolding numbers_of
 length_numbers {L} h = let k = h.long in let n : length (cut 335872 466944 L) ≡ 131072 = length_cut 335872 466944 L (omega arith) in length_shorts (cut 335872 466944 L) ∙ ap (λ (n : ℕ). n / 2) n
 
-pub length_places : {L : List ℕ} → Laid L → length (places_of L) ≡ 2048
-unfolding places_of
-length_places {L} h = let k = h.long in let n : length (cut 466944 475136 L) ≡ 8192 = length_cut 466944 475136 L (omega arith) in length_longs (cut 466944 475136 L) ∙ ap (λ (n : ℕ). n / 4) n
-
 pub length_begun : {L : List ℕ} → Laid L → length (begun_of L) ≡ 2048
 unfolding begun_of
 length_begun {L} h = let k = h.long in let n : length (cut 475136 479232 L) ≡ 4096 = length_cut 475136 479232 L (omega arith) in length_shorts (cut 475136 479232 L) ∙ ap (λ (n : ℕ). n / 2) n
@@ -105,14 +101,6 @@ put_number s = record {
 pub zero_numbers : {L X : List ℕ} → Zeroed 335872 466944 L X → (r : ℕ) → get_or (numbers_of X) r 0 ≡ 0
 unfolding numbers_of
 zero_numbers z r = ap (λ (l : List ℕ). get_or (shorts l) r 0) z.part ∙ zero_shorts (466944 - 335872) r
-
-pub get_place : {L : List ℕ} {i : ℕ} → CanRead L 2048 i → CanGet 466944 475136 L (longs (cut 466944 475136 L)) i
-unfolding places_of
-get_place h = record { le = omega arith; fits = omega (arith, h.laid.long); inside = omega (arith, h.inside, length_places h.laid) }
-
-pub set_place : {L : List ℕ} {i v : ℕ} → CanWrite L 2048 i 4294967296 v → CanSet 466944 475136 L (longs (cut 466944 475136 L)) i 4294967296 v
-unfolding places_of
-set_place h = record { le = omega arith; fits = omega (arith, h.laid.long); inside = omega (arith, h.inside, length_places h.laid); small = h.small }
 
 pub put_place : {L X : List ℕ} {i v : ℕ} → Laid L → Set4 466944 475136 L i v X → PutPlace L i v X
 unfolding numbers_of places_of begun_of

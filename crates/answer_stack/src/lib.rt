@@ -1,4 +1,6 @@
 // Accessors of what the traversal of an answer keeps in the working slice: the numbers of unknowns, and its stack.
+#![tactic(auto)]
+
 ghost use Rattle.std.specs.Prelude.{[]};
 ghost use Rattle.mem_numbers.specs.Numbers.{Got};
 ghost use Rattle.answer_walk.specs.Numbered.{Numbered};

@@ -21,6 +21,7 @@ last_digit fuel n tail l = go (eqb (n / 10) 0) (subst (λ (z : ℕ). T (eqb z 0)
     small = omega arith
 
     go : (b : Bool) → T b → one_more fuel n tail b ≡ (48 + n % 10) ∷ tail
+    go false t = elim t [ ]
     go true t = refl
 
 next_digit : (fuel n : ℕ) (tail : List ℕ) → 10 ≤ n → decimal_from (suc fuel) n tail ≡ decimal_from fuel (n / 10) ((48 + n % 10) ∷ tail)

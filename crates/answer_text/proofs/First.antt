@@ -22,6 +22,7 @@ unfolding unknowns
 unknown_old r seen i = go (elem r seen) ((elem_In r seen).1 i)
   where
     go : (b : Bool) → T b → if b seen (seen ++ (r ∷ [])) ≡ seen
+    go false t = elim t [ ]
     go true t = refl
 
 pub unknown_new : (r : ℕ) (seen : List ℕ) → (In r seen → ⊥) → unknowns (unbound r) seen ≡ seen ++ (r ∷ [])
@@ -35,6 +36,7 @@ unknown_new r seen n = go (elem r seen) (λ t. n ((elem_In r seen).0 t))
 -- its number is kept by what comes behind, and a new one has the next number
 pub position_old : (r : ℕ) (a b : List ℕ) → In r a → position r (a ++ b) ≡ position r a
 unfolding position
+position_old r [] b i = elim i [ ]
 position_old r (x ∷ a) b i = go (eqb r x) (λ e. subst (λ z. T (eqb r z)) e (eqb_refl r)) i (λ j. position_old r a b j)
   where
     go : (c : Bool) → (r ≡ x → T c) → (r ≡ x) ⊎ In r a → (In r a → position r (a ++ b) ≡ position r a) → if c 0 (suc (position r (a ++ b))) ≡ if c 0 (suc (position r a))
@@ -44,6 +46,7 @@ position_old r (x ∷ a) b i = go (eqb r x) (λ e. subst (λ z. T (eqb r z)) e (
 
 pub position_less : (r : ℕ) (a : List ℕ) → In r a → position r a < size a
 unfolding position size
+position_less r [] i = elim i [ ]
 position_less r (x ∷ a) i = go (eqb r x) (λ e. subst (λ z. T (eqb r z)) e (eqb_refl r)) i (λ j. position_less r a j)
   where
     go : (c : Bool) → (r ≡ x → T c) → (r ≡ x) ⊎ In r a → (In r a → position r a < size a) → if c 0 (suc (position r a)) < suc (size a)
@@ -56,6 +59,7 @@ unfolding position size
 position_new r [] b n = go (eqb r r) (eqb_refl r)
   where
     go : (c : Bool) → T c → if c 0 (suc (position r b)) ≡ 0
+    go false t = elim t [ ]
     go true t = refl
 position_new r (x ∷ a) b n = go (eqb r x) (λ t. n (inl (eqb→eq r x t))) (position_new r a b (λ i. n (inr i)))
   where

@@ -21,6 +21,7 @@ at_position (suc i) (x ∷ l) = at_position i l
 
 position_at : (r : ℕ) (l : List ℕ) → In r l → at_position (position r l) l ≡ r
 unfolding at_position position
+position_at r [] i = elim i [ ]
 position_at r (x ∷ l) i = go (eqb r x) (λ t. eqb→eq r x t) (λ e. subst (λ z. T (eqb r z)) e (eqb_refl r)) i (λ j. position_at r l j)
   where
     go : (b : Bool) → (T b → r ≡ x) → (r ≡ x → T b) → (r ≡ x) ⊎ In r l → (In r l → at_position (position r l) l ≡ r) → at_position (if b 0 (suc (position r l))) (x ∷ l) ≡ r

@@ -47,6 +47,7 @@ trees_range ρ ρ' q h = trees_agree ρ ρ' (range 0 q) (λ x i. h x (below x (r
     below x k = omega arith
 
 forest_head : (ρ : Asg) (ys : List ℕ) (ρ' : Asg) → trees ρ ys ≡ trees ρ' ys → (y : ℕ) → In y ys → ρ y ≡ ρ' y
+forest_head ρ [] ρ' e y i = elim i [ ]
 forest_head ρ (z ∷ ys) ρ' e y (inl q) = ap ρ q ∙ cc e ∙ ap ρ' (sym q)
 forest_head ρ (z ∷ ys) ρ' e y (inr i) = forest_head ρ ys ρ' (cc e) y i
 

@@ -10,7 +10,8 @@ use Rattle.akl.specs.Answers.{unbound, unknowns, position}
 use Rattle.work_tables.specs.Tables.{Laid}
 use Rattle.answer_walk.specs.Numbered.{Numbered}
 use Rattle.answer_walk.proofs.Numbering.{number_old, number_new, number_put}
-use Rattle.answer_emit.specs.Put.{Put, put_then, put_as}
+use Rattle.answer_emit.specs.Put.{Put}
+use Rattle.answer_emit.proofs.Put.{put_then, put_as}
 use Rattle.answer_stack.specs.Slots.{numbers_of, PutNumber, same_answered, length_numbers}
 use Rattle.answer_turn.specs.Turning.{Named}
 use Rattle.answer_turn.proofs.Steps.{mark_byte}

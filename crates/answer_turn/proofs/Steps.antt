@@ -24,7 +24,8 @@ use Rattle.answer_walk.specs.Stack.{left_at, frames, stacked, On, Child, Stacked
 use Rattle.answer_walk.proofs.Turns.{turn_unbound, turn_label, turn_open, turn_comma, turn_close, fewer_unbound, fewer_label, fewer_open, fewer_comma, fewer_close}
 use Rattle.answer_walk.proofs.Stacks.{left_all, left_next, left_none, push_frames, next_frames, top_frames}
 use Rattle.answer_walk.proofs.Heights.{stack_push, child_push, stack_next, child_next, stack_pop}
-use Rattle.answer_emit.specs.Put.{Put, put_then, put_as}
+use Rattle.answer_emit.specs.Put.{Put}
+use Rattle.answer_emit.proofs.Put.{put_then, put_as}
 use Rattle.answer_turn.specs.Turning.{term_in, Shown, Turned, AtBound}
 
 -- the bytes that are put one at a time

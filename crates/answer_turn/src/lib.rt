@@ -1,4 +1,6 @@
 // One turn of the traversal that writes a term: a variable, or what stands between two.
+#![tactic(auto)]
+
 ghost use Rattle.std.specs.Prelude.{true, false, ◌<◌};
 ghost use Rattle.mem_numbers.specs.Numbers.{triples};
 ghost use Rattle.work_tables.specs.Tables.{cells_of, pos_of, log_of, Laid, Logged};
@@ -8,7 +10,7 @@ ghost use Rattle.answer_turn.specs.Turning.{Shown, Ready, Turned, CanNumber, Nam
 use mem_variables::Variable;
 
 // Where a text ends, and how many unknowns were met.
-#[derive(Drop)]
+#[derive(Clone, Copy)]
 pub struct Wrote {
     pub at: usize,
     pub count: usize,
@@ -16,7 +18,7 @@ pub struct Wrote {
 
 // How the traversal goes on: whether the variable `x` is to be written next, the height of the stack, the unknowns that were met,
 // and where the text so far ends.
-#[derive(Drop)]
+#[derive(Clone, Copy)]
 pub struct Turn {
     pub going: bool,
     pub x: Variable,

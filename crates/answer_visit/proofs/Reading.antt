@@ -20,8 +20,10 @@ use Rattle.answer_walk.specs.Numbered.{Numbered}
 use Rattle.answer_walk.specs.Stack.{left_at}
 use Rattle.answer_walk.proofs.Numbering.{number_old, number_put}
 use Rattle.answer_walk.proofs.Stacks.{left_next, left_none}
-use Rattle.answer_stack.specs.Slots.{numbers_of, places_of, begun_of, PutNumber, PutBegun, Pushed, same_answered, length_numbers, length_places, length_begun}
-use Rattle.answer_known.specs.Known.{known_of, PutKnown, known_kept, length_known}
+use Rattle.answer_stack.specs.Slots.{numbers_of, places_of, begun_of, PutNumber, PutBegun, Pushed, same_answered, length_numbers, length_begun}
+use Rattle.answer_stack.proofs.Slots.{length_places}
+use Rattle.answer_known.specs.Known.{known_of, PutKnown, known_kept}
+use Rattle.answer_known.proofs.Known.{length_known}
 use Rattle.answer_turn.specs.Turning.{term_in, Shown, CanNumber}
 use Rattle.answer_turn.proofs.Reading.{test_is}
 use Rattle.answer_order.specs.Order.{left_of, lefts, BoundTo}

@@ -1,6 +1,8 @@
 // A search over the applications of a term, arguments first: it numbers the unknowns by first appearance, and makes the length of each
 // application's text known when its arguments are done. Each application is entered once, and each of its arguments looked at
 // twice, to be visited and to be measured, however long the text is.
+#![tactic(auto)]
+
 ghost use Rattle.std.specs.Prelude.{◌<◌};
 ghost use Rattle.mem_numbers.specs.Numbers.{triples};
 ghost use Rattle.work_tables.specs.Tables.{cells_of, pos_of, log_of, Laid, Logged};
@@ -12,7 +14,7 @@ ghost use Rattle.answer_visit.specs.Visiting.{Numbering, CanBegin, Begun, CanTur
 use mem_variables::Variable;
 
 // How the search goes on: the height of the stack, and the unknowns that were met.
-#[derive(Drop)]
+#[derive(Clone, Copy)]
 struct Stand {
     high: usize,
     count: usize,

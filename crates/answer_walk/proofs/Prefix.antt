@@ -49,6 +49,7 @@ met_grow f (ys ∷ fs) s = grows_then (unknowns_all_grow (terms f ys) s) (met_gr
 
 pub position_front : (r : ℕ) (s more : List ℕ) → In r s → position r (s ++ more) ≡ position r s
 unfolding position
+position_front r [] more i = elim i [ ]
 position_front r (x ∷ s) more i = go (eqb r x) (eqb_T r x).1 i (position_front r s more)
   where
     go : (b : Bool) → (r ≡ x → T b) → (r ≡ x) ⊎ In r s → (In r s → position r (s ++ more) ≡ position r s) → if b 0 (suc (position r (s ++ more))) ≡ if b 0 (suc (position r s))

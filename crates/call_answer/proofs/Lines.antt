@@ -22,7 +22,8 @@ use Rattle.check_held.specs.Checks.{nodes_in, variables_in, words_in}
 use Rattle.step_meant.specs.Meant.{Meant}
 use Rattle.step_meant.specs.Deciding.{HoldsState}
 use Rattle.answer_boxes.specs.Asked.{AnswerStands, Found}
-use Rattle.answer_emit.specs.Put.{Put, put_as, put_same}
+use Rattle.answer_emit.specs.Put.{Put}
+use Rattle.answer_emit.proofs.Put.{put_as, put_same}
 use Rattle.answer_known.specs.Known.{Counted, counted_to}
 use Rattle.answer_turn.specs.Turning.{term_in, Shown}
 use Rattle.answer_line.specs.Lined.{CanLine}

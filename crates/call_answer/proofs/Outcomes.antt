@@ -20,7 +20,8 @@ use Rattle.store_calls.specs.Outcomes.{slices_short, held, on_held, on_state, an
 use Rattle.store_calls.specs.Handed.{written}
 use Rattle.store_lent.specs.Lent.{working_bytes}
 use Rattle.step_meant.specs.Deciding.{HoldsState}
-use Rattle.answer_emit.specs.Put.{put, Put, put_fits}
+use Rattle.answer_emit.specs.Put.{put, Put}
+use Rattle.answer_emit.proofs.Put.{put_fits}
 use Rattle.call_answer.specs.Called.{answer_told, AnswerTo, state_answer, AnswerOf}
 
 module _ (b : List ℕ) (w n : ℕ) (O : List ℕ) where

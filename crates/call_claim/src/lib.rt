@@ -1,1 +1,2 @@
 // Laws only: demand 3 as one claim on lists of the calls that a host makes.
+#![tactic(auto)]

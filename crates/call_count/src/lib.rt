@@ -1,4 +1,6 @@
 // How many answers the configuration in a store has, on any slices.
+#![tactic(auto)]
+
 ghost use Rattle.std.specs.Prelude.{length};
 ghost use Rattle.call_count.specs.Called.{CountTo, CountCalled};
 

@@ -1,4 +1,6 @@
 // A steps text on a store and a working slice, on any slices.
+#![tactic(auto)]
+
 ghost use Rattle.std.specs.Prelude.{length};
 ghost use Rattle.call_run.specs.Called.{CanRun, RunTo, RunCalled};
 

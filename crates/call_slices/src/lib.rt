@@ -1,1 +1,2 @@
 // No code: laws on the lengths of the slices that a call is lent, and on whether a store holds a state.
+#![tactic(auto)]

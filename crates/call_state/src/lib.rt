@@ -1,4 +1,6 @@
 // The state of the configuration in a store, on any slices.
+#![tactic(auto)]
+
 ghost use Rattle.std.specs.Prelude.{length};
 ghost use Rattle.call_state.specs.Called.{StateTo, StateCalled};
 

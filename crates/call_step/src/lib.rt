@@ -1,4 +1,6 @@
 // A step on a store and a working slice, on any slices.
+#![tactic(auto)]
+
 ghost use Rattle.std.specs.Prelude.{length};
 ghost use Rattle.step_meant.specs.Deciding.{step_of};
 ghost use Rattle.call_step.specs.Called.{StepTo, StepCalled};

@@ -1,5 +1,7 @@
 // Whether the locals in the words of a configuration do not interfere: one pass with a stack of the open brackets, and for each
 // variable the place where it last was a local.
+#![tactic(auto)]
+
 ghost use Rattle.std.specs.Prelude.{◌≡◌, ◌≤◌, length};
 ghost use Rattle.mem_words.specs.Words.{words, Read};
 ghost use Rattle.work_tables.specs.Tables.{Laid};
@@ -13,7 +15,7 @@ ghost use Rattle.check_apart.specs.Next.{Look, Ready, Next, CanOpen, Opened};
 use mem_words::Word;
 
 // What a word comes to: locals interfere, or so many brackets are open behind it.
-#[derive(Drop)]
+#[derive(Clone, Copy)]
 pub enum Went {
     Refused,
     On(usize),

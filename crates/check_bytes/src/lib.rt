@@ -1,4 +1,6 @@
 // Whether a store's header is within its bounds, and what is not used of its regions zero.
+#![tactic(auto)]
+
 ghost use Rattle.mem_numbers.specs.Decides.{Decides};
 ghost use Rattle.check_held.specs.Checks.{numbers_in, Unused};
 ghost use Rattle.check_header.specs.Header.{Read};

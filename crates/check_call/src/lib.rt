@@ -1,4 +1,6 @@
 // A check of a store as a function that C and Rust can call, for tests and measurements: 8, 9, or 0.
+#![tactic(auto)]
+
 ghost use Rattle.std.specs.Prelude.{◌≡◌, length};
 ghost use Rattle.check_call.specs.Refused.{check_refusal, CheckCalled};
 

@@ -1,4 +1,6 @@
 // Whether words are those of a configuration whose statements pass, by the tables of the working slice.
+#![tactic(auto)]
+
 ghost use Rattle.mem_words.specs.Words.{words};
 ghost use Rattle.check_config.specs.Checking.{CanCheck, Checked};
 

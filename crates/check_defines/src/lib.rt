@@ -1,4 +1,6 @@
 // One more definition in the table of arities.
+#![tactic(auto)]
+
 ghost use Rattle.std.specs.Prelude.{◌≡◌, ◌≤◌};
 ghost use Rattle.check_tables.specs.Tables.{Tabled};
 ghost use Rattle.check_defines.specs.Bits.{power};

@@ -1,4 +1,6 @@
 // Whether no two nodes of a table of names have the same parent and byte, in time linear in the nodes.
+#![tactic(auto)]
+
 ghost use Rattle.std.specs.Prelude.{◌<◌, length};
 ghost use Rattle.mem_numbers.specs.Numbers.{triples};
 ghost use Rattle.mem_numbers.specs.Decides.{Decides};

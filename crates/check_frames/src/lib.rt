@@ -1,4 +1,6 @@
 // The frames that are left behind open brackets, in the working slice, four bytes each.
+#![tactic(auto)]
+
 ghost use Rattle.std.specs.Prelude.{◌≡◌, ◌+◌, ◌*◌, ◌<◌};
 ghost use Rattle.check_shapes.specs.Bounds.{Low, Left, frame_number, frame_of, number_frame};
 ghost use Rattle.check_frames.specs.Stack.{Pushed, CanPush, Topped, CanTop};

@@ -1,4 +1,6 @@
 // The configuration of a store.
+#![tactic(auto)]
+
 ghost use Rattle.mem_words.specs.Words.{words};
 ghost use Rattle.check_goals.specs.Goals.{CanGoals, GoalsChecked};
 

@@ -1,4 +1,6 @@
 // The header's numbers of a store, within their bounds.
+#![tactic(auto)]
+
 ghost use Rattle.std.specs.Prelude.{◌≡◌, ◌≤◌, length};
 ghost use Rattle.mem_numbers.specs.Numbers.{triples};
 ghost use Rattle.check_held.specs.Checks.{numbers_in};
@@ -6,7 +8,7 @@ ghost use Rattle.check_header.specs.Header.{Headed};
 
 // The counts of nodes of names, of the program's words, of the query's variables and of the configuration's words, and the next
 // fresh number.
-#[derive(Drop)]
+#[derive(Clone, Copy)]
 pub struct Header {
     pub nodes: usize,
     pub rules: usize,
@@ -16,7 +18,7 @@ pub struct Header {
 }
 
 // The header's numbers, or that they are out of bounds.
-#[derive(Drop)]
+#[derive(Clone, Copy)]
 pub enum Heading {
     Counted(Header),
     Wrong,

@@ -1,4 +1,6 @@
 // The heads of a program's definitions, found in its words and marked in the table of arities.
+#![tactic(auto)]
+
 ghost use Rattle.mem_words.specs.Words.{words, Small};
 ghost use Rattle.check_heads.specs.Filling.{Numbered, CanFill, CanMark, Filled};
 

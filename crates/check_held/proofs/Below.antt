@@ -79,4 +79,4 @@ store_below limit s F =
     (bytes_append (numbers_bytes (table s)) _ (bytes_numbers (table s))
     (bytes_region (program_length (node_count s)) (bytes_of (rules_words s)) _ (bytes_words (rules_words s) (small_all (rules_words s) F.rules_small) (program_good (number_in (table s)) s.program))
     (bytes_region variables_length (numbers_bytes s.variables) _ (bytes_numbers s.variables)
-    (bytes_region (config_length limit) (bytes_of (config_words s)) [] (bytes_words (config_words s) (small_all (config_words s) F.words_Small) (node_good (number_in (table s)) s.config.root [] tt)) tt))))
+    (bytes_region (config_length limit) (bytes_of (config_words s)) [] (bytes_words (config_words s) (small_all (config_words s) F.words_small) (node_good (number_in (table s)) s.config.root [] tt)) tt))))

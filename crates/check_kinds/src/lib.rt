@@ -1,4 +1,6 @@
 // What words say of boxes, locals and variables.
+#![tactic(auto)]
+
 ghost use Rattle.std.specs.Prelude.{◌≡◌};
 ghost use Rattle.check_words.specs.Frees.{is_and, is_locals};
 ghost use Rattle.check_kinds.specs.Seen.{seen};
@@ -8,7 +10,7 @@ use mem_variables::Variable;
 use mem_words::Word;
 
 // The variable that a word is, if it is one.
-#[derive(Drop)]
+#[derive(Clone, Copy)]
 pub enum Seen {
     Nothing,
     One(Variable),

@@ -1,4 +1,6 @@
 // The nodes of a table of names linked by their parents: each parent's first child, and each node's next sibling, last node first.
+#![tactic(auto)]
+
 ghost use Rattle.std.specs.Prelude.{length};
 ghost use Rattle.mem_numbers.specs.Numbers.{triples};
 ghost use Rattle.work_tables.specs.Tables.{Laid};

@@ -1,4 +1,6 @@
 // The locals of an and-box marked, each with the position of the last and-box of a guard that it is local to, and unmarked.
+#![tactic(auto)]
+
 ghost use Rattle.std.specs.Prelude.{◌≡◌, ◌<◌};
 ghost use Rattle.mem_words.specs.Words.{words};
 ghost use Rattle.work_tables.specs.Tables.{Laid};

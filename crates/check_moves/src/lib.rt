@@ -1,4 +1,6 @@
 // What a word does to the rest of a bracket, by the tables of the working slice.
+#![tactic(auto)]
+
 ghost use Rattle.std.specs.Prelude.{◌≡◌, ◌&&◌, ◌+◌, ◌<◌, leb, ltb};
 ghost use Rattle.akl.specs.Base.{if};
 ghost use Rattle.mem_words.specs.declared.Word.TheVariants.{End, Num};

@@ -1,4 +1,6 @@
 // Kinds of names: for each node of a table of names one byte, 1 for a constructor's name, 2 for a predicate's, 4 for a variable's, added.
+#![tactic(auto)]
+
 ghost use Rattle.std.specs.Prelude.{length};
 ghost use Rattle.mem_numbers.specs.Numbers.{triples};
 ghost use Rattle.work_tables.specs.Tables.{Laid};

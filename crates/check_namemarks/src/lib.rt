@@ -1,4 +1,6 @@
 // Marks of names: for each node of a table of names how its name is spelled and how long it is, from its parent's mark and its byte.
+#![tactic(auto)]
+
 ghost use Rattle.std.specs.Prelude.{◌≡◌, true, ◌<◌, length};
 ghost use Rattle.akl.specs.Token.{class_of, word_class, digit_class};
 ghost use Rattle.mem_numbers.specs.Numbers.{triples};

@@ -1,4 +1,6 @@
 // Whether a table of names is a trie, and numbers of its nodes are those of a query's variables; and the kinds of its names.
+#![tactic(auto)]
+
 ghost use Rattle.mem_numbers.specs.Numbers.{triples};
 ghost use Rattle.work_tables.specs.Tables.{Laid};
 ghost use Rattle.check_nodetables.specs.Tables.{kinds_of};

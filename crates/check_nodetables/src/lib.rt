@@ -1,1 +1,2 @@
 // No code: the tables in the working slice that the checks of the table of names use.
+#![tactic(auto)]

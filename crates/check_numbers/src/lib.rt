@@ -1,4 +1,6 @@
 // Whether every variable in the words of a configuration has a number below the next fresh one.
+#![tactic(auto)]
+
 ghost use Rattle.std.specs.Prelude.{◌≡◌};
 ghost use Rattle.mem_words.specs.Words.{words};
 ghost use Rattle.check_words.specs.Frees.{word_below, numbers_passed};

@@ -1,4 +1,6 @@
 // What a word that opens a locals list, a store, a constraint or a statement does to the rest of a bracket.
+#![tactic(auto)]
+
 ghost use Rattle.std.specs.Prelude.{◌≡◌, ◌-◌};
 ghost use Rattle.akl.specs.Base.{if};
 ghost use Rattle.mem_words.specs.declared.Word.TheVariants.{Inner};

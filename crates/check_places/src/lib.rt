@@ -1,4 +1,6 @@
 // What a word that opens a place of a configuration does to the rest of a bracket.
+#![tactic(auto)]
+
 ghost use Rattle.std.specs.Prelude.{◌≡◌};
 ghost use Rattle.mem_words.specs.declared.Word.TheVariants.{Place};
 ghost use Rattle.check_shapes.specs.Machine.{begun_root, begun_goal, begun_member, begun_guarded};

@@ -1,4 +1,6 @@
 // Whether words are those of a program that passes, by the tables of the working slice.
+#![tactic(auto)]
+
 ghost use Rattle.mem_words.specs.Words.{words};
 ghost use Rattle.check_heads.specs.Filling.{CanFill};
 ghost use Rattle.check_program.specs.Checking.{Checked};

@@ -1,4 +1,6 @@
 // Whether the query variables are local, in the words of a configuration, to exactly the and-boxes that stand in or-boxes alone.
+#![tactic(auto)]
+
 ghost use Rattle.std.specs.Prelude.{◌≡◌, false, ◌<◌, ◌^◌, drop};
 ghost use Rattle.constraint.specs.Solve.{elem};
 ghost use Rattle.akl.specs.Base.{all, range};

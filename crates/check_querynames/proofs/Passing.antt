@@ -151,6 +151,7 @@ bit_one true h = tt
 bit_one false h = absurd (omega arith)
 
 bit_true : (b : Bool) → T b → bit b ≡ 1
+bit_true false t = elim t [ ]
 bit_true true t = refl
 
 -- a kind of 4 and more is that of a variable's name

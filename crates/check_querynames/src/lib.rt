@@ -1,4 +1,6 @@
 // Whether numbers of nodes are those of a query's variables: names of variables, no two the same.
+#![tactic(auto)]
+
 ghost use Rattle.mem_numbers.specs.Numbers.{triples};
 ghost use Rattle.mem_numbers.specs.Decides.{Decides};
 ghost use Rattle.check_nodetables.specs.Tables.{kinds_of};

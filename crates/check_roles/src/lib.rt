@@ -1,4 +1,6 @@
 // What a bracket is to the test of scope, by its first word.
+#![tactic(auto)]
+
 ghost use Rattle.std.specs.Prelude.{◌≡◌};
 ghost use Rattle.check_roles.specs.Held.{kind_role, role_of, names_word};
 
@@ -6,7 +8,7 @@ use mem_sorts::Kind;
 use mem_words::Word;
 
 // An or-box or a bracket of locals, a store or a statement; a member or a choice-box; an and-box; a guarded goal.
-#[derive(Drop)]
+#[derive(Clone, Copy)]
 pub enum Role {
     Clear,
     Plain,

@@ -1,4 +1,6 @@
 // Whether a table of names has its root first, and every other node a parent below it.
+#![tactic(auto)]
+
 ghost use Rattle.std.specs.Prelude.{◌<◌, length};
 ghost use Rattle.mem_numbers.specs.Numbers.{triples};
 ghost use Rattle.mem_numbers.specs.Decides.{Decides};

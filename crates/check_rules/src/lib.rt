@@ -1,4 +1,6 @@
 // Names, query variables and program of a store.
+#![tactic(auto)]
+
 ghost use Rattle.check_rules.specs.Rules.{CanRules, RulesChecked};
 
 // Whether the table of names of `m` nodes, the `q` query variables and the `r` words of the program stand; the kinds of names and the

@@ -11,7 +11,8 @@ use Rattle.check_shapes.specs.declared.Move.{Move}
 use Rattle.check_shapes.specs.declared.Move.TheVariants.{Stop, Stay, Push, Pop}
 use Rattle.check_shapes.specs.Machine.{step, act, is_last, ends, run}
 use Rattle.check_shapes.specs.Bounds.{Bounded}
-use Rattle.check_shapes.specs.Low.{LowMove, step_low}
+use Rattle.check_shapes.specs.Low.{LowMove}
+use Rattle.check_shapes.proofs.Low.{step_low}
 use Rattle.check_tables.specs.Tables.{kinds_of, arities_of, frames_of, Tabled, con_of, pred_of, def_of, tabled_after, kinds_before, arities_before, length_frames}
 use Rattle.check_moves.specs.Stepping.{Steps}
 use Rattle.check_frames.specs.Stack.{stack, Pushed, CanPush, Topped, CanTop, stack_none, stack_some, stack_push}

@@ -1,4 +1,6 @@
 // The machine over the words of lent bytes, its stack in the working slice.
+#![tactic(auto)]
+
 ghost use Rattle.std.specs.Prelude.{◌≡◌};
 ghost use Rattle.mem_words.specs.Words.{words};
 ghost use Rattle.check_shapes.specs.Machine.{is_last};

@@ -1,5 +1,7 @@
 // Whether each variable in the words of a configuration is in scope: one pass with a stack of the open brackets, the locals in scope
 // marked, and for each guarded goal the last and-box of its guard.
+#![tactic(auto)]
+
 ghost use Rattle.std.specs.Prelude.{◌≡◌, ◌≤◌, length};
 ghost use Rattle.mem_words.specs.Words.{words, Read};
 ghost use Rattle.work_tables.specs.Tables.{Laid};
@@ -14,7 +16,7 @@ use mem_variables::Variable;
 use mem_words::Word;
 
 // What a word comes to: a variable is not in scope, or so many brackets are open behind it.
-#[derive(Drop)]
+#[derive(Clone, Copy)]
 pub enum Went {
     Refused,
     On(usize),

@@ -1,4 +1,6 @@
 // All that refusal 9 asks of the variables of a configuration: numbers, query variables, locals that do not interfere, scope.
+#![tactic(auto)]
+
 ghost use Rattle.std.specs.Prelude.{◌≡◌, ◌<◌, ◌≤◌, ◌^◌, length};
 ghost use Rattle.mem_words.specs.Words.{words};
 ghost use Rattle.work_tables.specs.Tables.{Laid};

@@ -1,7 +1,8 @@
 // What is left of a bracket that is being read, and what a word does to it.
+#![tactic(auto)]
 
 // The rest of a bracket, up to its End. `n` variables are bound around it, hidings and choices may nest `d` deeper in it.
-#[derive(Drop)]
+#[derive(Clone, Copy)]
 pub enum Frame {
     // an End
     Close,
@@ -48,7 +49,7 @@ pub enum Frame {
 }
 
 // The word is refused; it leaves another rest; it opens a bracket, and leaves another rest behind it; it closes the bracket.
-#[derive(Drop)]
+#[derive(Clone, Copy)]
 pub enum Move {
     Stop,
     Stay(Frame),

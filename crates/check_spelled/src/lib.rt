@@ -1,4 +1,6 @@
 // Whether a node of a table of names spells a word.
+#![tactic(auto)]
+
 ghost use Rattle.std.specs.Prelude.{◌≡◌, ◌<◌, length};
 ghost use Rattle.akl.specs.Base.{same};
 ghost use Rattle.mem_numbers.specs.Numbers.{triples};

@@ -1,4 +1,6 @@
 // Refusal 9: whether bytes hold a well-formed state.
+#![tactic(auto)]
+
 ghost use Rattle.check_store.specs.Store.{LongEnough, Formed};
 
 use check_header::Heading;

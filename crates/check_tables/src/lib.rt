@@ -1,4 +1,6 @@
 // What the tables of the working slice say of a name's number.
+#![tactic(auto)]
+
 ghost use Rattle.std.specs.Prelude.{◌≡◌};
 ghost use Rattle.check_tables.specs.Tables.{kinds_of, arities_of, Tabled, bit, con_of, pred_of, def_of};
 

@@ -1,4 +1,6 @@
 // The tables that tests of variables use in the working slice, as accessors. Only this crate knows where they lie.
+#![tactic(auto)]
+
 ghost use Rattle.mem_numbers.specs.Numbers.{Got};
 ghost use Rattle.work_tables.specs.Tables.{Laid, CanRead, CanWrite};
 ghost use Rattle.check_vartables.specs.Tables.{names_of, stack_of, links_of, PutName, PutStack, PutLink, NamesZero};

@@ -1,4 +1,6 @@
 // Whether the bytes of a range are zero.
+#![tactic(auto)]
+
 ghost use Rattle.std.specs.Prelude.{◌-◌, ◌≤◌};
 ghost use Rattle.mem_numbers.specs.Decides.{Decides};
 ghost use Rattle.check_zeros.specs.Zeros.{Zeros, Within, Tallied, ZeroTo, OneIf};

@@ -1,8 +1,8 @@
 -- The cycle test is right: after the rounds nothing is left exactly when the bindings can be ranked, arguments below.
 use mathlib.Core.Path.{◌≡◌, refl, ap, sym, ◌∙◌, subst}
-use mathlib.Core.Logic.{◌↔◌, ◌⊎◌, inl, inr, ite, if_pos, if_neg}
-use mathlib.Core.List.{List, [], ◌∷◌, ◌++◌, map}
-use mathlib.Core.Bool.{Bool, true, false, not}
+use mathlib.Core.Logic.{◌⊎◌, inl, inr, if_neg}
+use mathlib.Core.List.{List, [], ◌∷◌}
+use mathlib.Core.Bool.{Bool, true, false}
 use Prim.Native.Nat.{ℕ, zero, suc, ◌+◌, ◌≤◌, ◌<◌}
 use native.Mathlib.Decide.{ℕ_discrete}
 use native.Mathlib.Omega.{arith}
@@ -12,9 +12,8 @@ use Rattle.constraint.specs.Tree.{Label}
 use Rattle.constraint.specs.Constraint.{In}
 use Rattle.constraint.specs.Solve.{Bnd, free, fun, Bound, find, St, elem, keep, any_in, blocked_by, round, rounds, empty?, keys, acyclic?}
 use Rattle.constraint.proofs.Form.{Form, form, at, Below, Ranked, Stuck}
-use Rattle.constraint.proofs.Lists.{both, or_T, elem_In, keep_In, keep_all}
+use Rattle.constraint.proofs.Lists.{or_T, elem_In, keep_In, keep_all}
 use Rattle.constraint.proofs.Trees.{dec_in}
-use Rattle.constraint.proofs.Forms.{at_rep}
 
 -- a blocked term has an argument in a class of l
 abbrev pub Blocked : (ℕ → ℕ) → List ℕ → Bnd → Type 0
@@ -27,6 +26,7 @@ Ready r l (fun f ys) = (y : ℕ) → In y ys → ¬ In (r y) l
 
 any_some : (r : ℕ → ℕ) (l ys : List ℕ) → T (any_in r l ys) → (y : ℕ) × In y ys × In (r y) l
 unfolding any_in
+any_some r l [] h = elim h [ ]
 any_some r l (y ∷ ys) h = go ((or_T (elem (r y) l) (any_in r l ys)).0 h) (λ t. any_some r l ys t)
   where
     go : T (elem (r y) l) ⊎ T (any_in r l ys) → (T (any_in r l ys) → (z : ℕ) × In z ys × In (r z) l) → (z : ℕ) × In z (y ∷ ys) × In (r z) l
@@ -35,11 +35,13 @@ any_some r l (y ∷ ys) h = go ((or_T (elem (r y) l) (any_in r l ys)).0 h) (λ t
 
 any_none : (r : ℕ → ℕ) (l ys : List ℕ) → (T (any_in r l ys) → ⊥) → (y : ℕ) → In y ys → ¬ In (r y) l
 unfolding any_in
+any_none r l [] n y i j = elim i [ ]
 any_none r l (z ∷ ys) n y (inl e) j = n ((or_T (elem (r z) l) (any_in r l ys)).1 (inl ((elem_In (r z) l).1 (subst (λ w. In (r w) l) e j))))
 any_none r l (z ∷ ys) n y (inr i) j = any_none r l ys (λ t. n ((or_T (elem (r z) l) (any_in r l ys)).1 (inr t))) y i j
 
 pub blocked_T : (r : ℕ → ℕ) (l : List ℕ) (b : Bnd) → T (blocked_by r l b) → Blocked r l b
 unfolding blocked_by
+blocked_T r l free h = elim h [ ]
 blocked_T r l (fun f ys) h = let w = any_some r l ys h in (f, ys, w.0, refl, w.1, w.2)
 
 pub ready_T : (r : ℕ → ℕ) (l : List ℕ) (b : Bnd) → (T (blocked_by r l b) → ⊥) → Ready r l b
@@ -148,6 +150,7 @@ module _ (s : St) where
   keep_same p (x ∷ l) h = go (p x) (h x (inl refl)) (keep_same p l (λ y i. h y (inr i)))
     where
       go : (b : Bool) → T b → keep p l ≡ l → elim b as (λ c. List ℕ) [ true ↦ x ∷ keep p l | false ↦ keep p l ] ≡ x ∷ l
+      go false t e = elim t [ ]
       go true t e = ap (λ (m : List ℕ). x ∷ m) e
 
   rounds_same : (n : ℕ) (l : List ℕ) → round s l ≡ l → rounds n s l ≡ l
@@ -171,6 +174,7 @@ module _ (s : St) where
 
   keys_reps : (bs : List Bound) (v : ℕ) → In v (keys s.rep bs) → s.rep v ≡ v
   unfolding keys
+  keys_reps [] v i = elim i [ ]
   keys_reps (b ∷ bs) v (inl e) = rw e (s.idem b.0)
   keys_reps (b ∷ bs) v (inr i) = keys_reps bs v i
 

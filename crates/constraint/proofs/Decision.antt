@@ -4,18 +4,18 @@ use mathlib.Core.Logic.{◌↔◌, ◌⊎◌, inl, inr, ite}
 use mathlib.Core.List.{List, [], ◌∷◌, ◌++◌, map}
 use mathlib.Core.Bool.{Bool, true, false, ◌&&◌, not}
 use mathlib.Core.Option.{Option, some, none}
-use Prim.Native.Nat.{ℕ, zero, suc, ◌+◌, ◌<◌, ◌≤◌}
+use Prim.Native.Nat.{ℕ, suc, ◌+◌}
 use native.Mathlib.Decide.{ℕ_discrete}
 use native.Mathlib.Omega.{arith}
 use lib.Dec.{T, eqb}
-use Rattle.constraint.specs.Tree.{Tree, node, fnil}
-use Rattle.constraint.specs.Constraint.{Con, Store, Asg, Sat, Sats, Satisfiable, In, Off, Quiet, vars, vars_all, Fresh}
-use Rattle.constraint.specs.Solve.{Bnd, free, fun, find, St, untold, costs, held, tell_all, solve, elem, nub, distinct, keep, all?, acyclic?, sat_of, satisfiable?, free?, parameter?, untouched?, then_quiet?, after_quiet?, quiet_fresh?}
-use Rattle.constraint.proofs.Form.{Form, form, at, Solves, Ranked, Stuck, Of}
-use Rattle.constraint.proofs.Lists.{both, and_T, not_T, eqb_T, elem_In, keep_In, all_In, distinct_inj, inj_distinct, nub_In, nub_distinct, keep_distinct, In-append}
+use Rattle.constraint.specs.Tree.{node, fnil}
+use Rattle.constraint.specs.Constraint.{Store, Asg, Sats, Satisfiable, In, Quiet, vars_all, Fresh}
+use Rattle.constraint.specs.Solve.{Bnd, free, fun, find, St, untold, costs, held, solve, elem, nub, distinct, keep, all?, acyclic?, sat_of, satisfiable?, free?, parameter?, untouched?, then_quiet?, after_quiet?, quiet_fresh?}
+use Rattle.constraint.proofs.Form.{form, at, Solves, Ranked, Stuck, Of}
+use Rattle.constraint.proofs.Lists.{and_T, not_T, eqb_T, elem_In, keep_In, all_In, distinct_inj, inj_distinct, nub_In, nub_distinct, keep_distinct, In-append}
 use Rattle.constraint.proofs.Trees.{dec_in, sats_off}
 use Rattle.constraint.proofs.Forms.{stuck_none, solution, solution_solves}
-use Rattle.constraint.proofs.Entail.{sats_append, Par, Apart, quiet_if, quiet_keeps, quiet_apart, reach}
+use Rattle.constraint.proofs.Entail.{sats_append, Par, Apart, quiet_if, quiet_keeps, quiet_apart}
 use Rattle.constraint.proofs.Solver.{Means, run_ok}
 use Rattle.constraint.proofs.Cycle.{cycle_right}
 use Rattle.constraint.proofs.Untouched.{Without, Alone, run_alone, start_alone, find_free}

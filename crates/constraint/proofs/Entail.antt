@@ -1,15 +1,15 @@
 -- When a guard's store is quiet: the criterion on the solved forms of the environment (E) and of both (F).
-use mathlib.Core.Path.{◌≡◌, refl, ap, sym, ◌∙◌, subst}
-use mathlib.Core.Logic.{◌↔◌, ◌⊎◌, inl, inr}
+use mathlib.Core.Path.{◌≡◌, refl, ap, sym, ◌∙◌}
+use mathlib.Core.Logic.{◌↔◌}
 use mathlib.Core.List.{List, [], ◌∷◌, ◌++◌}
-use Prim.Native.Nat.{ℕ, zero, suc, ◌+◌, ◌≤◌, ◌<◌}
+use Prim.Native.Nat.{ℕ}
 use lib.ListN.{length}
 use native.Mathlib.Omega.{arith}
 use native.Mathlib.Decide.{ℕ_discrete}
-use Rattle.constraint.specs.Tree.{Label, Tree, Forest, node, fnil, fcons}
-use Rattle.constraint.specs.Constraint.{Con, Asg, trees, In, Store, Sats, Off, Quiet, Fresh}
+use Rattle.constraint.specs.Tree.{Label, node, fnil}
+use Rattle.constraint.specs.Constraint.{Asg, trees, In, Store, Sats, Off, Quiet, Fresh}
 use Rattle.constraint.specs.Solve.{Bnd, free, fun}
-use Rattle.constraint.proofs.Form.{Form, build, at, Solves, Ranked, Stuck, Of}
+use Rattle.constraint.proofs.Form.{Form, build, at, Solves, Ranked, Of}
 use Rattle.constraint.proofs.Trees.{dec_in, sats_off, node_label}
 use Rattle.constraint.proofs.Forms.{solution, solution_free, solution_solves, solution_unique}
 

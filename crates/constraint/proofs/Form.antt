@@ -1,9 +1,9 @@
 -- A form: the representative of each variable's class, and what each representative is bound to.
-use mathlib.Core.Path.{◌≡◌, refl, ap}
-use mathlib.Core.Logic.{◌↔◌, ◌⊎◌, inl, inr}
-use mathlib.Core.List.{List, [], ◌∷◌, ◌++◌}
-use Prim.Native.Nat.{ℕ, zero, suc, ◌+◌, ◌<◌}
-use Rattle.constraint.specs.Tree.{Label, Tree, Forest, node, fnil, fcons}
+use mathlib.Core.Path.{◌≡◌}
+use mathlib.Core.Logic.{◌↔◌}
+use mathlib.Core.List.{List}
+use Prim.Native.Nat.{ℕ, ◌<◌}
+use Rattle.constraint.specs.Tree.{Label, Tree, node}
 use Rattle.constraint.specs.Constraint.{Asg, trees, In, Store, Sats}
 use Rattle.constraint.specs.Solve.{Bnd, free, fun, St, find}
 

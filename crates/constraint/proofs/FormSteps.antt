@@ -1,13 +1,12 @@
 -- A solver's steps at the level of forms, stated pointwise: for an association list and for arrays alike.
-use mathlib.Core.Path.{◌≡◌, refl, ap, sym, ◌∙◌, subst, subst⁻¹}
-use mathlib.Core.Logic.{◌↔◌, ◌⊎◌, inl, inr, ite, if_pos, if_neg}
-use mathlib.Core.List.{List, [], ◌∷◌, ◌++◌}
-use Prim.Native.Nat.{ℕ, zero, suc}
+use mathlib.Core.Path.{◌≡◌, refl, ap, sym, ◌∙◌, subst}
+use mathlib.Core.Logic.{◌↔◌, if_pos, if_neg}
+use Prim.Native.Nat.{ℕ}
 use native.Mathlib.Decide.{ℕ_discrete}
-use Rattle.constraint.specs.Tree.{Label, Tree, node}
+use Rattle.constraint.specs.Tree.{node}
 use Rattle.constraint.specs.Constraint.{Asg, trees}
 use Rattle.constraint.specs.Solve.{Bnd, free, fun}
-use Rattle.constraint.proofs.Form.{Form, Solves, build, at}
+use Rattle.constraint.proofs.Form.{Form, Solves, build}
 use Rattle.constraint.specs.Solve.{to}
 
 -- the variable has the tree that its binding says

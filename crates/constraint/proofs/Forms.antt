@@ -1,11 +1,10 @@
 -- Solved forms: a ranked one has exactly one solution for any trees of its free classes; a stuck one has none.
-use mathlib.Core.Path.{◌≡◌, refl, ap, sym, ◌∙◌, subst}
-use mathlib.Core.Logic.{◌↔◌, ◌⊎◌, inl, inr}
-use mathlib.Core.List.{List, [], ◌∷◌, ◌++◌}
-use Prim.Native.Nat.{ℕ, zero, suc, ◌+◌, ◌≤◌, ◌<◌}
+use mathlib.Core.Path.{◌≡◌, refl, ap, sym, ◌∙◌}
+use mathlib.Core.List.{List}
+use Prim.Native.Nat.{ℕ, zero, suc, ◌<◌}
 use native.Mathlib.Omega.{arith}
-use Rattle.constraint.specs.Tree.{Label, Tree, Forest, node, fnil, fcons, tree_size, forest_size}
-use Rattle.constraint.specs.Constraint.{Con, Asg, trees, In, Store}
+use Rattle.constraint.specs.Tree.{Label, Tree, node, tree_size}
+use Rattle.constraint.specs.Constraint.{Asg, In}
 use Rattle.constraint.specs.Solve.{Bnd, free, fun}
 use Rattle.constraint.proofs.Form.{Form, build, at, Solves, Below, Ranked, Stuck}
 use Rattle.constraint.proofs.Trees.{arg_le, trees_agree}

@@ -4,7 +4,7 @@ use mathlib.Core.Logic.{◌↔◌, ◌⊎◌, inl, inr}
 use mathlib.Core.List.{List, [], ◌∷◌, ◌++◌, map}
 use mathlib.Core.Option.{Option, some, none}
 use mathlib.Core.Bool.{Bool, true, false, ◌&&◌, ◌||◌, not}
-use Prim.Native.Nat.{ℕ, zero, suc, ◌+◌, ◌≤◌, ◌<◌}
+use Prim.Native.Nat.{ℕ, suc, ◌≤◌, ◌<◌}
 use native.Mathlib.Omega.{arith}
 use lib.ListN.{length}
 use lib.Dec.{T, eqb, eqb→eq, eqb_refl}
@@ -84,10 +84,12 @@ all_In p (y ∷ l) =
     (λ h x i. elim i [ inl q ↦ subst (λ z. T (p z)) (sym q) ((and_T (p y) (all? p l)).0 h).0 | inr j ↦ ih.0 ((and_T (p y) (all? p l)).0 h).1 x j ], λ h. (and_T (p y) (all? p l)).1 (h y (inl refl), ih.1 (λ x i. h x (inr i))))
 
 pub map_In : (f : ℕ → ℕ) (x : ℕ) (l : List ℕ) → In x l → In (f x) (map f l)
+map_In f x [] i = elim i [ ]
 map_In f x (y ∷ l) (inl e) = inl (ap f e)
 map_In f x (y ∷ l) (inr i) = inr (map_In f x l i)
 
 pub map_out : (f : ℕ → ℕ) (z : ℕ) (l : List ℕ) → In z (map f l) → (x : ℕ) × In x l × (z ≡ f x)
+map_out f z [] i = elim i [ ]
 map_out f z (y ∷ l) (inl e) = (y, inl refl, e)
 map_out f z (y ∷ l) (inr i) = let w = map_out f z l i in (w.0, inr w.1, w.2)
 
@@ -101,6 +103,7 @@ distinct_cons x l =
 
 -- the images of the list are distinct: f is injective on it
 pub distinct_inj : (f : ℕ → ℕ) (l : List ℕ) → T (distinct (map f l)) → (x y : ℕ) → In x l → In y l → f x ≡ f y → x ≡ y
+distinct_inj f [] h x y i _ e = elim i [ ]
 distinct_inj f (z ∷ l) h x y (inl a) (inl b) e = a ∙ sym b
 distinct_inj f (z ∷ l) h x y (inl a) (inr j) e = absurd (((distinct_cons (f z) (map f l)).0 h).0 (subst (λ w. In w (map f l)) (sym e ∙ ap f a) (map_In f y l j)))
 distinct_inj f (z ∷ l) h x y (inr i) (inl b) e = absurd (((distinct_cons (f z) (map f l)).0 h).0 (subst (λ w. In w (map f l)) (e ∙ ap f b) (map_In f x l i)))

@@ -1,14 +1,14 @@
 -- Quiet does not depend on the numbers of the locals, so that the decision may rename those that occur elsewhere.
 use mathlib.Core.Path.{◌≡◌, refl, ap, sym, ◌∙◌, subst}
-use mathlib.Core.Logic.{◌↔◌, ◌⊎◌, inl, inr}
+use mathlib.Core.Logic.{◌↔◌, inl, inr}
 use mathlib.Core.List.{List, [], ◌∷◌, ◌++◌, map}
 use mathlib.Core.Bool.{Bool, true, false}
-use Prim.Native.Nat.{ℕ, zero, suc, ◌+◌, ◌-◌, ◌<◌, ◌≤◌, max}
+use Prim.Native.Nat.{ℕ, ◌+◌, ◌-◌, ◌<◌, ◌≤◌}
 use native.Mathlib.Omega.{arith}
 use lib.Dec.{T}
-use Rattle.constraint.specs.Tree.{Tree, node, fcons}
-use Rattle.constraint.specs.Constraint.{Con, ctrue, cfail, ceq, capp, map_con, Store, Asg, trees, Sat, Sats, In, Off, Quiet, vars, vars_all, Apart, Fresh}
-use Rattle.constraint.specs.Solve.{elem, top, rename, quiet_fresh?, quiet?}
+use Rattle.constraint.specs.Tree.{node, fcons}
+use Rattle.constraint.specs.Constraint.{Con, ctrue, cfail, ceq, capp, map_con, Store, Asg, trees, Sat, Sats, In, Quiet, vars, vars_all, Fresh}
+use Rattle.constraint.specs.Solve.{elem, top, rename, quiet?}
 use Rattle.constraint.proofs.Lists.{elem_In, In-append, map_In, map_out}
 use Rattle.constraint.proofs.Trees.{dec_in, sat_agree}
 use Rattle.constraint.proofs.Entail.{if, if_yes, if_no}
@@ -16,6 +16,7 @@ use Rattle.constraint.proofs.Decision.{quiet_fresh_iff}
 
 top_below : (x : ℕ) (l : List ℕ) → In x l → x < top l
 unfolding top
+top_below x [] i = elim i [ ]
 top_below x (y ∷ l) (inl e) = rw e (omega arith)
 top_below x (y ∷ l) (inr i) = omega (arith, top_below x l i)
 
@@ -45,6 +46,7 @@ module _ (vs : List ℕ) (k : ℕ) where
   rename_in x i = go (elem x vs) ((elem_In x vs).1 i)
     where
       go : (b : Bool) → T b → elim b as (λ c. ℕ) [ true ↦ k + x | false ↦ x ] ≡ k + x
+      go false t = elim t [ ]
       go true t = refl
 
   rename_out : (x : ℕ) → (In x vs → ⊥) → rename vs k x ≡ x

@@ -1,7 +1,7 @@
 -- Telling a constraint keeps the assignments that satisfy state and constraints together, and ends within its bound.
 use mathlib.Core.Path.{◌≡◌, refl, ap, sym, ◌∙◌}
 use mathlib.Core.Logic.Iff
-use mathlib.Core.Logic.{◌↔◌, ◌⊎◌, inl, inr, ite, if_pos, if_neg}
+use mathlib.Core.Logic.{◌↔◌, ite, if_pos, if_neg}
 use mathlib.Core.List.{List, [], ◌∷◌, ◌++◌}
 use mathlib.Core.Option.{Option, some, none}
 use Prim.Native.Nat.{ℕ, zero, suc, ◌+◌, ◌≤◌, ◌<◌, ◌*◌}
@@ -11,8 +11,8 @@ use lib.ListN.{length}
 use Rattle.constraint.specs.Tree.{Label, label_dec, Tree, Forest, node, fnil, fcons}
 use Rattle.constraint.specs.Constraint.{Con, ctrue, cfail, ceq, capp, Store, Asg, trees, Sat, Sats}
 use Rattle.constraint.specs.Solve.{Bnd, free, fun}
-use Rattle.constraint.proofs.Form.{Form, form, Solves, build, at}
-use Rattle.constraint.specs.Solve.{Bound, find, remove, St, to, merge, put, pairs, again, clash?, Next, on_eq, on_app, tell_one, tell_all, cost, costs, held}
+use Rattle.constraint.proofs.Form.{form, Solves, build}
+use Rattle.constraint.specs.Solve.{Bound, find, remove, St, merge, put, pairs, again, clash?, on_eq, on_app, tell_all, costs, held}
 use Rattle.constraint.proofs.Entail.{sats_append}
 use Rattle.constraint.proofs.Trees.{node_label, node_args}
 

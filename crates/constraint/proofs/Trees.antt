@@ -1,12 +1,12 @@
 -- Finite trees: labels and children of equal nodes, forest-size of children; assignments that agree on a constraint's variables.
-use mathlib.Core.Path.{◌≡◌, refl, ap, sym, ◌∙◌, subst}
-use mathlib.Core.Logic.{◌↔◌, ◌⊎◌, inl, inr}
-use mathlib.Core.List.{List, [], ◌∷◌, ◌++◌}
-use Prim.Native.Nat.{ℕ, zero, suc, ◌+◌, ◌≤◌, ◌<◌}
+use mathlib.Core.Path.{◌≡◌, refl, ap, sym, ◌∙◌}
+use mathlib.Core.Logic.{◌⊎◌, inl, inr}
+use mathlib.Core.List.{List, [], ◌∷◌}
+use Prim.Native.Nat.{ℕ, ◌≤◌}
 use native.Mathlib.Omega.{arith}
 use native.Mathlib.Decide.{ℕ_discrete}
-use Rattle.constraint.specs.Tree.{Label, Tree, Forest, node, fnil, fcons, tree_size, forest_size}
-use Rattle.constraint.specs.Constraint.{Con, ctrue, cfail, ceq, capp, Asg, trees, Sat, Sats, In, Off, Quiet, Store, vars, Apart, Fresh}
+use Rattle.constraint.specs.Tree.{Label, Forest, node, tree_size, forest_size}
+use Rattle.constraint.specs.Constraint.{Con, ctrue, cfail, ceq, capp, Asg, trees, Sat, Sats, In, Off, Store, vars, Fresh}
 
 pub node_label : {f g : Label} {ts us : Forest} → node f ts ≡ node g us → f ≡ g
 node_label e = cc e
@@ -17,6 +17,7 @@ node_args e = cc e
 -- an argument is smaller than the tree
 pub arg_le : (ρ : Asg) (y : ℕ) (ys : List ℕ) → In y ys → tree_size (ρ y) ≤ forest_size (trees ρ ys)
 unfolding tree_size
+arg_le ρ y [] i = elim i [ ]
 arg_le ρ y (z ∷ ys) (inl e) = rw e (omega arith)
 arg_le ρ y (z ∷ ys) (inr h) = omega (arith, arg_le ρ y ys h)
 

@@ -1,13 +1,13 @@
 -- A variable that no constraint mentions stays alone in its class and unbound.
-use mathlib.Core.Path.{◌≡◌, refl, ap, sym, ◌∙◌, subst}
-use mathlib.Core.Logic.{◌↔◌, ◌⊎◌, inl, inr, ite, if_pos, if_neg}
-use mathlib.Core.List.{List, [], ◌∷◌, ◌++◌, map}
+use mathlib.Core.Path.{◌≡◌, refl, sym, ◌∙◌}
+use mathlib.Core.Logic.{inl, inr, ite, if_neg}
+use mathlib.Core.List.{List, [], ◌∷◌, ◌++◌}
 use mathlib.Core.Option.{Option, some, none}
 use Prim.Native.Nat.{ℕ, zero, suc}
 use native.Mathlib.Decide.{ℕ_discrete}
 use Rattle.constraint.specs.Tree.{Label, label_dec}
-use Rattle.constraint.specs.Constraint.{Con, ctrue, cfail, ceq, capp, Store, In, vars, vars_all}
-use Rattle.constraint.specs.Solve.{Bnd, free, fun, Bound, find, remove, St, untold, swap, merge, put, pairs, again, clash?, on_eq, on_app, tell_all}
+use Rattle.constraint.specs.Constraint.{ctrue, cfail, ceq, capp, Store, In, vars, vars_all}
+use Rattle.constraint.specs.Solve.{Bnd, free, fun, Bound, find, remove, St, untold, swap, pairs, again, clash?, on_eq, on_app, tell_all}
 use Rattle.constraint.proofs.Lists.{In-append}
 
 module _ (x : ℕ) where

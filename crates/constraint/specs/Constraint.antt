@@ -1,6 +1,5 @@
 -- Constraints, and what document 01 says of them by the trees that satisfy them.
-use Rattle.std.specs.Prelude.{◌≡◌, refl, ◌⊎◌, List, [], ◌∷◌, ◌++◌, map, ℕ}
-use Rattle.std.proofs.Common.{inl, inr}
+use Rattle.std.specs.Prelude.{◌≡◌, ◌⊎◌, List, [], ◌∷◌, ◌++◌, map, ℕ}
 use Rattle.constraint.specs.Tree.{Label, Tree, Forest, node, fnil, fcons}
 
 -- "A constraint atom has one of four kinds: `true`, `fail`, variable = variable, variable = constructor."

@@ -1,6 +1,6 @@
 -- Labels and finite trees.
 -- Document 01: "Values are finite trees labelled with names of any length; name and number of children must both agree."
-use Rattle.std.specs.Prelude.{◌≡◌, refl, ℕ, zero, suc, ◌+◌}
+use Rattle.std.specs.Prelude.{◌≡◌, refl, ℕ, suc, ◌+◌}
 use Rattle.std.proofs.Common.{sym}
 use mathlib.Core.List.{List, [], ◌∷◌, head-eq_of_cons-eq, tail-eq_of_cons-eq, nil≢cons}
 use Rattle.std.proofs.Math.Decide.{ℕ_discrete}

@@ -1,4 +1,6 @@
 // Runs of bytes and of words copied; a word opened.
+#![tactic(auto)]
+
 ghost use Rattle.std.specs.Prelude.{drop};
 ghost use Rattle.mem_words.specs.Words.{words};
 ghost use Rattle.mem_copies.specs.Runs.{run, CanCopy, Copied};

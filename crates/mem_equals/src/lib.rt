@@ -1,4 +1,6 @@
 // Words compared, one by one and in runs.
+#![tactic(auto)]
+
 ghost use Rattle.std.specs.Prelude.{◌≡◌, ◌≤◌};
 ghost use Rattle.mem_numbers.specs.Decides.{Decides};
 ghost use Rattle.mem_words.specs.Words.{words};

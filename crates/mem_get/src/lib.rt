@@ -1,4 +1,6 @@
 // A word read.
+#![tactic(auto)]
+
 ghost use Rattle.std.specs.Prelude.{◌≡◌, ◌<◌, length};
 ghost use Rattle.mem_words.specs.Words.{words, word, end_word, place_word, inner_word, Read};
 

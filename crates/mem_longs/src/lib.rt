@@ -1,4 +1,6 @@
 // Numbers in lent bytes, the low byte first: of four bytes.
+#![tactic(auto)]
+
 ghost use Rattle.std.specs.Prelude.{◌<◌, length};
 ghost use Rattle.mem_numbers.specs.Stored.{Stored};
 ghost use Rattle.mem_numbers.specs.Numbers.{longs, Got, CanPut, Counted};

@@ -1,4 +1,6 @@
 // Runs of words moved within their slice, down and up.
+#![tactic(auto)]
+
 ghost use Rattle.std.specs.Prelude.{drop};
 ghost use Rattle.mem_words.specs.Words.{words};
 ghost use Rattle.mem_copies.specs.Runs.{CanMoveDown, CanMoveUp, Copied};

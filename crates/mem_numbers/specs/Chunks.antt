@@ -1,7 +1,7 @@
 -- A list of bytes cut into pieces of one width: the laws of reading and writing a piece, stated once for every width.
 -- Assumes nothing.
 use Rattle.std.specs.Prelude.{◌≡◌, refl, List, [], ◌∷◌, ◌++◌, ℕ, zero, suc, ◌+◌, ◌*◌, ◌<◌, ◌≤◌, length, get_or, set, take, drop}
-use Rattle.std.proofs.Common.{ap, ap₂, sym, ◌∙◌, append_assoc, not-suc-le-zero, le_of_suc-le-suc, mul-zero, mul-suc, add_comm, arith, length-set, length-append, length-take, length-drop, drop-drop, take_at, drop_at, length-take-le, take-take}
+use Rattle.std.proofs.Common.{ap, ap₂, sym, ◌∙◌, append_assoc, not-suc-le-zero, le_of_suc-le-suc, mul-zero, mul-suc, add_comm, arith, length-drop, drop-drop, take_at, drop_at, length-take-le, take-take}
 use Rattle.std.proofs.lemmas.List.Edits.{sets, sets-eq}
 use Rattle.std.proofs.lemmas.List.{take-append-le, drop-append-le}
 use Rattle.std.proofs.Math.Seq.{take-nil}

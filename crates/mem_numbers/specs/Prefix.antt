@@ -1,6 +1,6 @@
 -- The numbers in the first bytes of a list are its first numbers. Assumes nothing.
-use Rattle.std.specs.Prelude.{◌≡◌, refl, List, [], ◌∷◌, ℕ, zero, suc, ◌+◌, ◌*◌, ◌/◌, ◌<◌, ◌≤◌, length, get_or, take}
-use Rattle.std.proofs.Common.{ap, ap₂, sym, ◌∙◌, arith, ext_get_or, get_or-take, length-take-le}
+use Rattle.std.specs.Prelude.{◌≡◌, refl, List, ℕ, zero, suc, ◌+◌, ◌*◌, ◌<◌, ◌≤◌, length, get_or, take}
+use Rattle.std.proofs.Common.{ap₂, sym, ◌∙◌, arith, ext_get_or, get_or-take, length-take-le}
 use Rattle.mem_numbers.specs.Numbers.{value_at, triples, length_triples, get_or_triples}
 
 value_prefix : (w : ℕ) (l : List ℕ) (m j : ℕ) → j + w ≤ m → value_at w (take m l) j ≡ value_at w l j

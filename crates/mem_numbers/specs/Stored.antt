@@ -1,6 +1,6 @@
 -- What reading from and writing to a lent list of elements means, for elements of any type. Assumes nothing.
 use Rattle.std.specs.Prelude.{◌≡◌, refl, List, [], ◌∷◌, ℕ, zero, suc, ◌<◌, ◌≤◌, length, get_or, set, take, drop}
-use Rattle.std.proofs.Common.{ap, sym, ◌∙◌, not-suc-le-zero, le_of_suc-le-suc, arith, length-set, get_or-set_same, get_or-set_other, drop-set-lt}
+use Rattle.std.proofs.Common.{ap, ◌∙◌, not-suc-le-zero, le_of_suc-le-suc, get_or-set_same, get_or-set_other, drop-set-lt}
 use Rattle.std.proofs.lemmas.List.{take-set-le}
 
 -- X is L with v at i

@@ -1,4 +1,6 @@
 // Numbers in lent bytes, the low byte first: of two bytes (shorts) and of three (triples).
+#![tactic(auto)]
+
 ghost use Rattle.std.specs.Prelude.{◌≡◌, ◌<◌, length, replicate};
 ghost use Rattle.mem_numbers.specs.Stored.{Stored};
 ghost use Rattle.mem_numbers.specs.Numbers.{shorts, triples, Got, CanPut, Counted};

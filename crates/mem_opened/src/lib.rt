@@ -1,4 +1,6 @@
 // Runs of words copied with their levels opened.
+#![tactic(auto)]
+
 ghost use Rattle.std.specs.Prelude.{map, drop, ◌≡◌, get_or};
 ghost use Rattle.mem_words.specs.Words.{words};
 ghost use Rattle.mem_copies.specs.Runs.{run, CanCopyOpened, Copied};

@@ -1,5 +1,7 @@
 // Numbers of two, three and four bytes in a part of one lent slice, from `a` on up to `e`. The bounds are parameters and no
 // constants: the proof is made once, and no large numeral stands under `take` or `drop`.
+#![tactic(auto)]
+
 ghost use Rattle.std.specs.Prelude.{◌<◌, length};
 ghost use Rattle.mem_numbers.specs.Numbers.{shorts, triples, longs, Got, CanPut};
 ghost use Rattle.mem_numbers.specs.Stored.{Stored};

@@ -1,4 +1,6 @@
 // A word written.
+#![tactic(auto)]
+
 ghost use Rattle.mem_numbers.specs.Stored.{Stored};
 ghost use Rattle.mem_words.specs.Words.{words, CanWrite};
 

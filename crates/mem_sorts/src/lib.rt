@@ -1,9 +1,11 @@
 // The sorts of nodes and the kinds of places, by their numbers.
+#![tactic(auto)]
+
 ghost use Rattle.std.specs.Prelude.{◌≡◌, ◌<◌};
 ghost use Rattle.mem_sorts.specs.Shapes.{kind_no, sort_no};
 
 // The shapes that are places of a configuration.
-#[derive(Drop)]
+#[derive(Clone, Copy)]
 pub enum Kind {
     Or,
     And,
@@ -15,7 +17,7 @@ pub enum Kind {
 }
 
 // The other shapes that open a bracket: locals, stores, constraints and statements.
-#[derive(Drop)]
+#[derive(Clone, Copy)]
 pub enum Sort {
     Locals,
     Store,

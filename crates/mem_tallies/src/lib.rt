@@ -1,4 +1,6 @@
 // The bytes with which words begin, marked among the bytes of sixteen words.
+#![tactic(auto)]
+
 ghost use Rattle.std.specs.Prelude.{◌≡◌};
 ghost use Rattle.mem_tallies.specs.Tallies.{firsts};
 

@@ -1,5 +1,6 @@
 // A variable as a type of its own, so that no place, position or length is passed for one.
+#![tactic(auto)]
 
 // A variable's number.
-#[derive(Drop)]
+#[derive(Clone, Copy)]
 pub struct Variable(pub usize);

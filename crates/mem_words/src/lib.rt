@@ -1,4 +1,6 @@
 // Words in lent bytes: three bytes each, a class and a two-byte value with the low byte first, read as an enum by value.
+#![tactic(auto)]
+
 ghost use Rattle.std.specs.Prelude.{◌≡◌, ◌<◌};
 ghost use Rattle.mem_numbers.specs.Numbers.{Counted};
 ghost use Rattle.mem_words.specs.Words.{words, class_of, value_of};
@@ -7,7 +9,7 @@ use mem_sorts::{Kind, Sort};
 
 // A word closes a bracket, is a variable, a bound variable's level or a number, or opens a bracket. Each of these has one form
 // in bytes; all other bytes read as `Bad`.
-#[derive(Drop)]
+#[derive(Clone, Copy)]
 pub enum Word {
     End,
     Free(usize),

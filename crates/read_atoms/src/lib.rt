@@ -1,4 +1,6 @@
 // Simple statements that are no brackets, checked and written as words: constraint atoms and program atoms.
+#![tactic(auto)]
+
 ghost use Rattle.std.specs.Prelude.{◌≡◌};
 ghost use Rattle.mem_numbers.specs.Numbers.{shorts, triples};
 ghost use Rattle.mem_words.specs.Words.{words};

@@ -1,4 +1,6 @@
 // What stands behind the counts in the reader's outputs made zero.
+#![tactic(auto)]
+
 ghost use Rattle.std.specs.Prelude.{◌≤◌, length};
 ghost use Rattle.read_behind.specs.Behind.{Behind, Within, AllBehind};
 

@@ -1,4 +1,6 @@
 // `read_both::read` as a function that C and Rust can call, for tests/reader and bench/reader.
+#![tactic(auto)]
+
 ghost use Rattle.mem_numbers.specs.Numbers.{shorts, triples, longs};
 ghost use Rattle.mem_words.specs.Words.{words};
 ghost use Rattle.read_inputs.specs.Inputs.{InputsTo};

@@ -1,4 +1,6 @@
 // The bodies of all definitions, one after another.
+#![tactic(auto)]
+
 ghost use Rattle.mem_numbers.specs.Numbers.{shorts, triples};
 ghost use Rattle.mem_words.specs.Words.{words};
 ghost use Rattle.read_definitions.specs.Definitions.{CanBodies, Bodies};

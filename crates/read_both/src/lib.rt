@@ -1,4 +1,6 @@
 // A program and a query from bytes, with all tables made anew, so without preconditions.
+#![tactic(auto)]
+
 ghost use Rattle.mem_numbers.specs.Numbers.{shorts, triples};
 ghost use Rattle.mem_words.specs.Words.{words};
 ghost use Rattle.read_inputs.specs.Inputs.{InputsTo, Outputs};

@@ -1,10 +1,12 @@
 // The classes of bytes.
+#![tactic(auto)]
+
 ghost use Rattle.std.specs.Prelude.{◌≡◌};
 ghost use Rattle.akl.specs.Token.{class_of, word_class, digit_class};
 ghost use Rattle.read_bytes.specs.Meant.{class};
 
 // The classes of bytes.
-#[derive(Drop)]
+#[derive(Clone, Copy)]
 pub enum Class {
     Small,
     Capital,

@@ -2,11 +2,16 @@
 // first (definitions, words of the program, variables of the query, words of the query, nodes of the names); then the numbers
 // of the variables' names, of two bytes, and the words of the program and of the query, of three. Else a line: `refusal` and
 // its number. A file that cannot be opened counts as empty. The tables have room for every text within its limit.
+#![tactic(auto)]
+
 ghost use Rattle.std.specs.Prelude.{◌≡◌, length};
 ghost use Rattle.io.specs.Counts.{IsPrefixLen};
 
-use libc::STDOUT_FILENO;
 use read_inputs::Inputs;
+use std::fs::File;
+use std::os::fd::AsRawFd;
+
+const STDOUT: i32 = 1;
 
 // 9 + 16,384 + 4,096 cells of three bytes.
 fn cells_space() -> [u8; 61467]
@@ -79,11 +84,13 @@ fn text_space() -> [u8; 20480]
 }
 
 // Reads a file, and answers how many bytes it has.
-fn load(path: &[u8], space: &mut [u8]) -> usize
+fn load(rt: &HostRuntime, path: &str, space: &mut [u8]) -> usize
     ensures { IsPrefixLen result space.new }
 {
-    let file = os::open_read(path);
-    io::read_full(file, space)
+    match File::open(rt, path) {
+        Ok(file) => io::read_full(file.as_raw_fd(), space),
+        Err(_) => 0,
+    }
 }
 
 // A number of four bytes.
@@ -94,14 +101,14 @@ fn write_count(v: usize) {
         (v / 65536 % 256) as u8,
         (v / 16777216 % 256) as u8,
     ];
-    io::write_all(STDOUT_FILENO, &bytes);
+    io::write_all(STDOUT, &bytes);
 }
 
 // The first `e` bytes of a table.
 fn write_first(table: &[u8], e: usize) {
     if e <= 210000 {
         let n = io::count(e as isize, table);
-        io::write_all(STDOUT_FILENO, &table[..n]);
+        io::write_all(STDOUT, &table[..n]);
     }
 }
 
@@ -164,20 +171,20 @@ fn answer(program: &[u8], query: &[u8]) {
             write_words(&goal, b);
         }
         Inputs::Refused(f) => {
-            io::write_all(STDOUT_FILENO, b"refusal ");
-            io::print_decimal(STDOUT_FILENO, refusals::number(f) as u64);
-            io::write_all(STDOUT_FILENO, b"\n");
+            io::write_all(STDOUT, b"refusal ");
+            io::print_decimal(STDOUT, refusals::number(f) as u64);
+            io::write_all(STDOUT, b"\n");
         }
         Inputs::Short => {
-            io::write_all(STDOUT_FILENO, b"short\n");
+            io::write_all(STDOUT, b"short\n");
         }
     }
 }
 
-fn main() {
+fn main(rt: HostRuntime) {
     let mut rules = text_space();
-    let n = load(b"rules.akl", &mut rules);
+    let n = load(&rt, "rules.akl", &mut rules);
     let mut goal = text_space();
-    let m = load(b"query.akl", &mut goal);
+    let m = load(&rt, "query.akl", &mut goal);
     answer(&rules[..n], &goal[..m]);
 }

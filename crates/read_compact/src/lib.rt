@@ -1,4 +1,6 @@
 // Empty slots closed in one pass.
+#![tactic(auto)]
+
 ghost use Rattle.std.specs.Prelude.{◌≡◌, ◌≤◌, length};
 ghost use Rattle.mem_words.specs.Words.{words};
 ghost use Rattle.read_emits.specs.TheirContracts.{is_bad, Compacted};

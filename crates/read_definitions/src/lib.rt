@@ -1,4 +1,6 @@
 // One definition of a program, checked and written as words.
+#![tactic(auto)]
+
 ghost use Rattle.mem_numbers.specs.Numbers.{shorts, triples};
 ghost use Rattle.mem_words.specs.Words.{words};
 ghost use Rattle.read_phrases.specs.Codes.{Known};
@@ -11,7 +13,7 @@ use read_pieces::Read;
 
 // What stands before a definition's body: its name and parameters, and where the body begins; or there are too many parameters;
 // or there is no definition.
-#[derive(Drop)]
+#[derive(Clone, Copy)]
 enum Opening {
     To {
         name: usize,

@@ -1,4 +1,6 @@
 // Words written one after another. A slot that may stay empty is the word `Bad`; `compact` drops the slots that did.
+#![tactic(auto)]
+
 ghost use Rattle.std.specs.Prelude.{◌≤◌, length};
 ghost use Rattle.mem_words.specs.Words.{words, Small};
 ghost use Rattle.read_emits.specs.TheirContracts.{EmitTo, EndsTo};
@@ -6,7 +8,7 @@ ghost use Rattle.read_emits.specs.TheirContracts.{EmitTo, EndsTo};
 use mem_words::Word;
 
 // The position behind what was written, or there was no room.
-#[derive(Drop)]
+#[derive(Clone, Copy)]
 pub enum Emitted {
     To(usize),
     Full,

@@ -1,4 +1,6 @@
 // Where arguments and hidden lists end in a table of tokens.
+#![tactic(auto)]
+
 ghost use Rattle.mem_numbers.specs.Numbers.{triples};
 ghost use Rattle.read_phrases.specs.Phrases.{ArgumentsTo, HiddenTo};
 

@@ -1,4 +1,6 @@
 // Slots of hidings and choices filled.
+#![tactic(auto)]
+
 ghost use Rattle.std.specs.Prelude.{◌≡◌, ◌+◌, ◌≤◌, ◌<◌, length};
 ghost use Rattle.mem_words.specs.Words.{words};
 ghost use Rattle.read_pieces.specs.Slots.{HideFilled, ChoiceFilled, ask_of};

@@ -1,4 +1,6 @@
 // Where a definition ends in a table of tokens, if it is of the grammar. The stack is for the brackets that are open in its body.
+#![tactic(auto)]
+
 ghost use Rattle.mem_numbers.specs.Numbers.{triples};
 ghost use Rattle.read_phrases.specs.Codes.{Known};
 ghost use Rattle.read_grammar.specs.Grammar.{DefinitionTo};
@@ -7,7 +9,7 @@ use read_phrases::Phrase;
 use read_statements::End;
 
 // Whether a text is of the grammar; or the stack is too short.
-#[derive(Drop)]
+#[derive(Clone, Copy)]
 pub enum Verdict {
     Of,
     NotOf,

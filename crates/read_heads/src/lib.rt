@@ -1,5 +1,7 @@
 // The heads of a program's definitions: the number of the name * 256 + the parameters. All are known before a body is read, since
 // a program atom may stand before its definition.
+#![tactic(auto)]
+
 ghost use Rattle.mem_numbers.specs.Numbers.{triples};
 ghost use Rattle.read_heads.specs.Heads.{CanHead, HeadTo, HeadedTo};
 
@@ -7,7 +9,7 @@ use read_phrases::Phrase;
 use read_statements::End;
 
 // A definition's head and where the definition ends; or it has too many parameters; there is none; or the stack is too short.
-#[derive(Drop)]
+#[derive(Clone, Copy)]
 enum Head {
     At { head: usize, rest: usize },
     Many,
@@ -17,7 +19,7 @@ enum Head {
 
 // How many heads there are, and whether one is there twice; or there are too many definitions or parameters; the tokens are no
 // program; or the stack or the table is too short.
-#[derive(Drop)]
+#[derive(Clone, Copy)]
 pub enum Headed {
     All { count: usize, twice: bool },
     Many,

@@ -1,11 +1,13 @@
 // What reading a program and a query comes to, and its outputs made zero.
+#![tactic(auto)]
+
 ghost use Rattle.std.specs.Prelude.{◌≡◌, length, replicate};
 
 use refusals::Refusal;
 
 // How many definitions the program has and how many words, how many variables the query has and how many words, and how many
 // nodes the names of both; or the refusal; or a table is too short.
-#[derive(Drop)]
+#[derive(Clone, Copy)]
 pub enum Inputs {
     Read {
         definitions: usize,

@@ -58,20 +58,3 @@ coded_name {text} {N} {H} {S} {N'} {H'} {S'} {at} {len} {n} {i} {m} {c} k g h I 
 
 pub coded_full : {text N H S N' H' S' : List ℕ} {at len n : ℕ} (k : Kind) → Interned text at len N H S n N' H' S' Full → Encoded text k at len N H S n N' H' S' Full
 coded_full k I = record { kept = I.kept; code = I.number }
-
-pub coded_mark : {text N H S : List ℕ} {at len n c : ℕ} (k : Kind) → 1 ≤ len → Trie N H S n → 3 ≤ kind_no k → c ≡ kind_no k → Encoded text k at len N H S n N H S (At c n)
-coded_mark {text} {N} {H} {S} {at} {len} {n} {c} k g T h e =
-    let s = kind_small k in
-    let b : c ≡ kind_no k + 0 * 256 = omega arith in
-    record {
-      kept = kept_none N H S;
-      code =
-          record {
-            trie = T;
-            grown = grown_none N n;
-            fit = record { kind = omega arith; number = omega (arith, T.root); above = λ z. absurd (omega arith); mark = λ z. omega arith };
-            token = token_at_lem N k 0 c b ∙ mark_any k (named N 0) (take len (drop at text)) h;
-            few = omega arith;
-            spare = omega (arith, mark_most (token_of k (take len (drop at text))));
-          };
-    }

@@ -1,4 +1,6 @@
 // The code of a token: the number of its kind + 256 * the number of its name, which is 0 for a mark. A text is read as a table of codes.
+#![tactic(auto)]
+
 ghost use Rattle.std.specs.Prelude.{◌≡◌};
 ghost use Rattle.mem_numbers.specs.Numbers.{shorts, triples};
 ghost use Rattle.read_lexed.specs.Codes.{kind_no};
@@ -8,7 +10,7 @@ use read_tokens::Kind;
 use read_trie::Child;
 
 // How many codes and nodes there are; or some bytes are no token; or a table is too short.
-#[derive(Drop)]
+#[derive(Clone, Copy)]
 pub enum Lexed {
     All(usize, usize),
     Bad,

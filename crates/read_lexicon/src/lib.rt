@@ -1,4 +1,6 @@
 // The names `true` and `fail` are given their numbers.
+#![tactic(auto)]
+
 ghost use Rattle.mem_numbers.specs.Numbers.{shorts, triples};
 ghost use Rattle.read_lexicon.specs.Lexicon.{Begun};
 

@@ -1,4 +1,6 @@
 // Steps texts: a line read at a position, and a whole text checked.
+#![tactic(auto)]
+
 ghost use Rattle.std.specs.Prelude.{◌≡◌};
 ghost use Rattle.akl.specs.StepsText.{read_steps};
 ghost use Rattle.read_steps.specs.Lines.{LineRead, checked, counted};

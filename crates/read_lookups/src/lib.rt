@@ -1,15 +1,17 @@
 // Numbers of names looked up in tables: the level, the first place, and whether a number is listed.
+#![tactic(auto)]
+
 ghost use Rattle.std.specs.Prelude.{◌≡◌, ◌≤◌, length, get_or, take};
 ghost use Rattle.mem_numbers.specs.Numbers.{shorts, triples};
 ghost use Rattle.read_lookups.specs.Places.{among};
 ghost use Rattle.read_lookups.specs.Finding.{FoundAt};
 
 // A variable's number: that of a query variable is its position by first free occurrence.
-#[derive(Drop)]
+#[derive(Clone, Copy)]
 pub struct Variable(pub usize);
 
 // A variable's number, or there is none.
-#[derive(Drop)]
+#[derive(Clone, Copy)]
 pub enum Found {
     At(Variable),
     Absent,

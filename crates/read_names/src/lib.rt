@@ -1,4 +1,6 @@
 // Names numbered by a trie in lent bytes: equal names have equal numbers, and a name can be spelled from its number.
+#![tactic(auto)]
+
 ghost use Rattle.mem_numbers.specs.Numbers.{shorts, triples};
 ghost use Rattle.read_names.specs.Interning.{CanIntern, Interned};
 

@@ -2,6 +2,8 @@
 // remaining tokens falling, and no deeper than brackets may nest. A text is known to be of the grammar before it is read
 // (crate grammar), so that brackets too deep, too many arguments or too many query variables end the reading at once: no
 // lower refusal can be due.
+#![tactic(auto)]
+
 ghost use Rattle.mem_numbers.specs.Numbers.{shorts, triples};
 ghost use Rattle.mem_words.specs.Words.{words};
 ghost use Rattle.read_phrases.specs.Codes.{op_of};

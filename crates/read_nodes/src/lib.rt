@@ -1,6 +1,8 @@
 // The nodes of a trie in lent bytes. Node 0 is the root. The cell of a node above 0 is its parent * 256 + the last byte of its
 // name. A node's children are a chain: `heads` has the first, `nexts` the next sibling, 0 for none. `n` is how many nodes
 // there are, the root among them.
+#![tactic(auto)]
+
 ghost use Rattle.std.specs.Prelude.{◌≡◌, ◌/◌, ◌%◌, ◌<◌, length, get_or};
 ghost use Rattle.mem_numbers.specs.Numbers.{shorts, triples};
 ghost use Rattle.read_nodes.specs.Trie.{Kept};

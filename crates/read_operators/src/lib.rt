@@ -1,4 +1,6 @@
 // Hidden lists and operators: the refusals that they give.
+#![tactic(auto)]
+
 ghost use Rattle.std.specs.Prelude.{◌≡◌};
 ghost use Rattle.read_operators.specs.Binding.{twice_no, Operates, Mixes};
 

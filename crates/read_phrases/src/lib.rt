@@ -1,12 +1,14 @@
 // Kinds and numbers of tokens in a text's table, and lists of variables; what simple statements there are. A token is a number of three
 // bytes: its kind, and 256 times the number of its name.
+#![tactic(auto)]
+
 ghost use Rattle.std.specs.Prelude.{◌≡◌};
 ghost use Rattle.mem_numbers.specs.Numbers.{triples};
 ghost use Rattle.read_phrases.specs.Codes.{kind_at, number_at};
 ghost use Rattle.read_phrases.specs.Phrases.{VariablesTo};
 
 // A list of `count` names and the position behind it, or there is none.
-#[derive(Drop)]
+#[derive(Clone, Copy)]
 pub enum Phrase {
     To { rest: usize, count: usize },
     Odd,
@@ -14,7 +16,7 @@ pub enum Phrase {
 
 // The four kinds of constraint atoms. Variables and labels are numbers of names; a constructor's arguments are `count` names,
 // at every second token from `first` on.
-#[derive(Drop)]
+#[derive(Clone, Copy)]
 pub enum Constraint {
     True,
     Fail,
@@ -31,7 +33,7 @@ pub enum Constraint {
 }
 
 // A simple statement and the position behind it; of a bracket, the position behind its opening; or there is none.
-#[derive(Drop)]
+#[derive(Clone, Copy)]
 pub enum Simple {
     Atom {
         kind: Constraint,

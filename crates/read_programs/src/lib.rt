@@ -1,4 +1,6 @@
 // A program from its table of tokens: its refusal, or the heads and the words of its definitions.
+#![tactic(auto)]
+
 ghost use Rattle.akl.specs.Reader.{fault};
 ghost use Rattle.mem_numbers.specs.Numbers.{shorts, triples};
 ghost use Rattle.mem_words.specs.Words.{words};
@@ -10,7 +12,7 @@ use read_pieces::Read;
 use refusals::Refusal;
 
 // How many definitions a program has, how many words, and how many nodes the names; or its refusal; or a table is too short.
-#[derive(Drop)]
+#[derive(Clone, Copy)]
 pub enum Programmed {
     Read {
         definitions: usize,

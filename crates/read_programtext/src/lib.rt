@@ -1,4 +1,6 @@
 // Whether bytes are a program text: refusals 1 and 2.
+#![tactic(auto)]
+
 ghost use Rattle.mem_numbers.specs.Numbers.{shorts, triples};
 ghost use Rattle.akl.specs.Limits.{program_bytes};
 ghost use Rattle.akl.specs.Parse.{parse_program};

@@ -1,4 +1,6 @@
 // A query read from its bytes: its refusal, or its variables by first free occurrence and the words of its statement.
+#![tactic(auto)]
+
 ghost use Rattle.mem_numbers.specs.Numbers.{shorts, triples};
 ghost use Rattle.mem_words.specs.Words.{words};
 ghost use Rattle.read_queries.specs.Checks.{CanCheck, CheckedTo};
@@ -10,7 +12,7 @@ use refusals::Refusal;
 
 // How many variables a query has, how many words its statement, and how many nodes the names; or its refusal; or a table is too
 // short.
-#[derive(Drop)]
+#[derive(Clone, Copy)]
 pub enum Queried {
     Read {
         variables: usize,

@@ -1,4 +1,6 @@
 // A program from bytes: its refusal, or the heads and the words of its definitions.
+#![tactic(auto)]
+
 ghost use Rattle.mem_numbers.specs.Numbers.{shorts, triples};
 ghost use Rattle.mem_words.specs.Words.{words};
 ghost use Rattle.read_programs.specs.Programs.{ProgramTo};

@@ -1,12 +1,14 @@
 // What a variable's name stands for. Names are numbers; the name of a token's code is the code / 256. `binds` has two bytes for
 // each name: 0 where it is not bound, else 1 + the position of its last occurrence among the names bound, outermost first.
+#![tactic(auto)]
+
 ghost use Rattle.std.specs.Prelude.{◌≡◌, ◌/◌, ◌<◌, length, get_or};
 ghost use Rattle.mem_numbers.specs.Numbers.{shorts, triples};
 ghost use Rattle.read_scopes.specs.Scopes.{CanEnter, Entered, CanLeave, Left};
 ghost use Rattle.read_scopes.specs.TheirContracts.{CanBind, BindTo, CanUnbind, Unbound};
 
 // The names of a list are bound, and are apart or one is there twice; or there was no room to save what was bound.
-#[derive(Drop)]
+#[derive(Clone, Copy)]
 pub enum Binding {
     Apart,
     Twice,

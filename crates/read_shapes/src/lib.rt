@@ -1,4 +1,6 @@
 // Whether a table of tokens is a query or a program.
+#![tactic(auto)]
+
 ghost use Rattle.mem_numbers.specs.Numbers.{triples};
 ghost use Rattle.read_phrases.specs.Codes.{Known};
 ghost use Rattle.read_grammar.specs.Grammar.{QueryIs, ProgramIs};

@@ -1,4 +1,6 @@
 // Simple statements in a table of tokens: a constraint atom, a program atom or a bracket.
+#![tactic(auto)]
+
 ghost use Rattle.mem_numbers.specs.Numbers.{triples};
 ghost use Rattle.read_phrases.specs.Codes.{Known};
 ghost use Rattle.read_phrases.specs.Phrases.{CanEquate, CanName, SimpleAt};

@@ -1,4 +1,6 @@
 // Slots kept before what is in a bracket, and before a further clause.
+#![tactic(auto)]
+
 ghost use Rattle.std.specs.Prelude.{◌<◌};
 ghost use Rattle.mem_words.specs.Words.{words};
 ghost use Rattle.read_pieces.specs.Slots.{SlotsTo, ClauseTo};

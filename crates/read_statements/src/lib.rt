@@ -1,6 +1,8 @@
 // Where a statement ends in a table of tokens, however deep its brackets nest: the open ones are kept on a lent stack, a byte
 // each, so that the machine's own stack does not grow with them. A byte says what may follow: 0, the bracket's first statement
 // is being read, an operator or the end may follow; 1, a body, a `;` or the end; 2, a later guard, an operator.
+#![tactic(auto)]
+
 ghost use Rattle.mem_numbers.specs.Numbers.{triples};
 ghost use Rattle.read_phrases.specs.Codes.{Known};
 ghost use Rattle.read_statements.specs.Statements.{CanTurn, CanFollow, CanStep, Followed, Stepped, StatementTo};
@@ -8,7 +10,7 @@ ghost use Rattle.read_statements.specs.Statements.{CanTurn, CanFollow, CanStep, 
 use read_phrases::{Phrase, Simple};
 
 // What follows: another simple statement; the outer statement's end; what is not of the grammar; or the stack is full.
-#[derive(Drop)]
+#[derive(Clone, Copy)]
 pub enum Onward {
     Next { at: usize, height: usize },
     Done { rest: usize },
@@ -17,7 +19,7 @@ pub enum Onward {
 }
 
 // Where a statement or a definition ends; there is none; or the stack is too short.
-#[derive(Drop)]
+#[derive(Clone, Copy)]
 pub enum End {
     To(usize),
     None,

@@ -1,4 +1,6 @@
 // A number of a steps text, whose lines have three decimal numbers below 2^32 for each step.
+#![tactic(auto)]
+
 ghost use Rattle.std.specs.Prelude.{◌≡◌};
 ghost use Rattle.read_steps.specs.Numbers.{CanAdd, capped, Numbered};
 
@@ -6,11 +8,11 @@ use read_tokens::Cursor;
 use refusals::Refusal;
 
 // A place's number in a configuration.
-#[derive(Drop)]
+#[derive(Clone, Copy)]
 pub struct Place(pub u64);
 
 // A step as its line says it.
-#[derive(Drop)]
+#[derive(Clone, Copy)]
 pub struct Step {
     pub rule: u64,
     pub place: Place,
@@ -18,21 +20,21 @@ pub struct Step {
 }
 
 // A number and the position behind the byte that follows it, or no number there.
-#[derive(Drop)]
+#[derive(Clone, Copy)]
 pub enum Number {
     At(u64, Cursor),
     Nothing,
 }
 
 // A line's step and the position behind its newline, or a refusal.
-#[derive(Drop)]
+#[derive(Clone, Copy)]
 pub enum Line {
     At(Step, Cursor),
     Refused(Refusal),
 }
 
 // The number of a text's steps, or a refusal.
-#[derive(Drop)]
+#[derive(Clone, Copy)]
 pub enum Checked {
     Steps(usize),
     Refused(Refusal),

@@ -1,12 +1,18 @@
 // Whether standard input is a text: a query where the first argument begins with `q`, else a program. Writes `ok`, or the
 // number of the refusal, 1 or 2. The tables have room for every text within its limit.
+#![tactic(auto)]
+
 ghost use Rattle.std.specs.Prelude.{◌≡◌, length};
 ghost use Rattle.akl.specs.Limits.{program_bytes, query_bytes};
 ghost use Rattle.akl.specs.Parse.{parse_query, parse_program};
 ghost use Rattle.read_textcheck.specs.Checked.{Checked};
 
-use libc::{STDIN_FILENO, STDOUT_FILENO};
 use read_texts::Readable;
+use std::env::Env;
+
+const STDIN: i32 = 0;
+
+const STDOUT: i32 = 1;
 
 // 16,384 codes of three bytes.
 fn codes_space() -> [u8; 49152]
@@ -81,26 +87,27 @@ fn say(r: Readable) {
             tokens: _tokens,
             names: _names,
         } => {
-            io::write_all(STDOUT_FILENO, b"ok\n");
+            io::write_all(STDOUT, b"ok\n");
         }
         Readable::Long => {
-            io::write_all(STDOUT_FILENO, b"1\n");
+            io::write_all(STDOUT, b"1\n");
         }
         Readable::Odd => {
-            io::write_all(STDOUT_FILENO, b"2\n");
+            io::write_all(STDOUT, b"2\n");
         }
         Readable::Short => {
-            io::write_all(STDOUT_FILENO, b"short\n");
+            io::write_all(STDOUT, b"short\n");
         }
     }
 }
 
-fn main() {
+fn main(rt: HostRuntime) {
+    // (of a longer argument its first four bytes)
     let mut word = [0u8; 4];
-    os::arg(1, &mut word);
+    let _ = rt.arg(1, &mut word);
     let kind = word[0];
     let mut space = text_space();
-    let n = io::read_full(STDIN_FILENO, &mut space);
+    let n = io::read_full(STDIN, &mut space);
     if kind == b'q' {
         say(query(&space[..n]));
         return;

@@ -1,4 +1,6 @@
 // Whether bytes are a query text: short enough, and of the grammar. The table of their tokens is left for whoever reads on.
+#![tactic(auto)]
+
 ghost use Rattle.mem_numbers.specs.Numbers.{shorts, triples};
 ghost use Rattle.akl.specs.Limits.{query_bytes};
 ghost use Rattle.akl.specs.Parse.{parse_query};
@@ -10,7 +12,7 @@ use read_lexed::Lexed;
 
 // How many tokens a text has, and how many nodes its names; or it is too long; not of the grammar; or a table or the stack is
 // too short.
-#[derive(Drop)]
+#[derive(Clone, Copy)]
 pub enum Readable {
     Yes { tokens: usize, names: usize },
     Long,

@@ -1,4 +1,6 @@
 // A whole text to a table of token codes.
+#![tactic(auto)]
+
 ghost use Rattle.mem_numbers.specs.Numbers.{shorts, triples};
 ghost use Rattle.read_nodes.specs.Trie.{Trie};
 ghost use Rattle.read_lexed.specs.Table.{Tokenised};

@@ -1,4 +1,6 @@
 // Bytes to tokens: a cursor that moves forward by whole tokens, the longest first.
+#![tactic(auto)]
+
 ghost use Rattle.std.specs.Prelude.{◌≡◌, ◌≤◌, ◌<◌, ◌+◌, length, get_or};
 ghost use Rattle.akl.specs.Token.{word_class, digit_class};
 ghost use Rattle.read_tokens.specs.Kinds.{sign_of, placed, spelled_of};
@@ -8,7 +10,7 @@ ghost use Rattle.read_tokens.specs.Next.{Reads};
 use read_bytes::Class;
 
 // What a token is, its bytes aside.
-#[derive(Drop)]
+#[derive(Clone, Copy)]
 pub enum Kind {
     Name,
     Digits,
@@ -27,7 +29,7 @@ pub enum Kind {
 }
 
 // A mark at the head of some bytes: of one byte, of two, or none.
-#[derive(Drop)]
+#[derive(Clone, Copy)]
 enum Sign {
     One(Kind),
     Two(Kind),
@@ -35,12 +37,12 @@ enum Sign {
 }
 
 // A reading position.
-#[derive(Drop)]
+#[derive(Clone, Copy)]
 pub struct Cursor(pub usize);
 
 // What reading at a cursor finds: a token of `len` bytes from `at` on, with the cursor behind it; the end of the text; or
 // bytes that are no token.
-#[derive(Drop)]
+#[derive(Clone, Copy)]
 pub enum Next {
     Token {
         kind: Kind,

@@ -1,10 +1,12 @@
 // Children in a trie in lent bytes, found in their chain or made.
+#![tactic(auto)]
+
 ghost use Rattle.std.specs.Prelude.{◌+◌, ◌*◌};
 ghost use Rattle.mem_numbers.specs.Numbers.{shorts, triples};
 ghost use Rattle.read_trie.specs.Outcome.{CanChild, CanMake, Childed};
 
 // A node and the count of nodes, or no room.
-#[derive(Drop)]
+#[derive(Clone, Copy)]
 pub enum Child {
     At(usize, usize),
     Full,

@@ -1,4 +1,6 @@
 // The words of lists of variables.
+#![tactic(auto)]
+
 ghost use Rattle.mem_numbers.specs.Numbers.{shorts, triples};
 ghost use Rattle.mem_words.specs.Words.{words};
 ghost use Rattle.read_lookups.specs.Places.{ids};

@@ -1,4 +1,6 @@
 // The word of a variable: its level where the name is bound; else, in a query, its number.
+#![tactic(auto)]
+
 ghost use Rattle.std.specs.Prelude.{◌≡◌, [], ◌∷◌};
 ghost use Rattle.mem_numbers.specs.Numbers.{shorts};
 ghost use Rattle.mem_words.specs.Words.{words};
@@ -10,7 +12,7 @@ use read_lookups::{Found, Variable};
 
 // The words of variables are written: the position behind them, how many names are known, and whether a name is not bound. Or
 // a query has too many variables, or there was no room.
-#[derive(Drop)]
+#[derive(Clone, Copy)]
 pub enum Vars {
     Done {
         out: usize,

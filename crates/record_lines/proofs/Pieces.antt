@@ -18,7 +18,8 @@ use Rattle.store_form.specs.State.{State}
 use Rattle.store_calls.specs.Outcomes.{slices_short, held}
 use Rattle.store_lent.specs.Lent.{working_bytes}
 use Rattle.answer_boxes.specs.Asked.{state_number}
-use Rattle.answer_emit.specs.Put.{put, Put, put_then, put_as, put_nothing}
+use Rattle.answer_emit.specs.Put.{put, Put}
+use Rattle.answer_emit.proofs.Put.{put_then, put_as, put_nothing}
 use Rattle.answer_emit.proofs.Ways.{put_wet}
 use Rattle.call_state.specs.Called.{StateTo}
 use Rattle.mem_parts.specs.Parts.{cut}

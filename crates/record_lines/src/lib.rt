@@ -1,5 +1,7 @@
 // The lines of the record, put into a lent slice. Each function hands back where its piece ends: the slice's length + 1 where it does
 // not fit.
+#![tactic(auto)]
+
 ghost use Rattle.std.specs.Prelude.{true, ◌++◌, ◌+◌, ◌≤◌, length};
 ghost use Rattle.akl.specs.Base.{bytes};
 ghost use Rattle.akl.specs.Record.{two_lines};

@@ -1,10 +1,12 @@
 // What three texts come to: the first two numbers of the record, and the store of where the steps lead.
+#![tactic(auto)]
+
 ghost use Rattle.record_verdict.specs.Judged.{StepsJudged, Judged};
 
 use read_steps::Checked;
 
 // Refused: the refusal of a text or of the start. Ran: how many steps are accepted, and the refusal of the next step or 0.
-#[derive(Drop)]
+#[derive(Clone, Copy)]
 pub enum Verdict {
     Refused(usize),
     Ran(usize, usize),

@@ -1,8 +1,10 @@
 // What a call returns instead of 0: the refusals of document 01's table, in its order.
+#![tactic(auto)]
+
 ghost use Rattle.std.specs.Prelude.{◌≡◌};
 ghost use Rattle.refusals.specs.Refusals.{number_of, Textual};
 
-#[derive(Drop)]
+#[derive(Clone, Copy)]
 pub enum Refusal {
     TooLong, // 1
     NotOfGrammar, // 2

@@ -41,6 +41,11 @@ module _ (num : Name → ℕ) (P : Program) (next : ℕ) (Z W : List Word) (i : 
 
   statement_applies : (χ : Ctx goal) (vs : _) (σ : _) (l r : _) (s : Stmt) (j : ℕ) → In j (rules_of (statement_kind s)) → Applies (in_and χ vs σ l r) (stmt s) j
   unfolding asks_in effect node_defined rules_of statement_kind
+  statement_applies χ vs σ l r (atom c) j (inr i) = elim i [ ]
+  statement_applies χ vs σ l r (call p xs) j (inr i) = elim i [ ]
+  statement_applies χ vs σ l r (comp a b) j (inr i) = elim i [ ]
+  statement_applies χ vs σ l r (hide n a) j (inr i) = elim i [ ]
+  statement_applies χ vs σ l r (choice op cs) j (inr i) = elim i [ ]
   statement_applies χ vs σ l r (atom c) j (inl e) = for_rule j 1 e (record { shows = λ h. refl })
   statement_applies χ vs σ l r (call p xs) j (inl e) = for_rule j 2 e (record { shows = λ h. some_then (defined P p (size xs)) _ })
   statement_applies χ vs σ l r (comp a b) j (inl e) = for_rule j 3 e (record { shows = λ h. refl })
@@ -50,6 +55,7 @@ module _ (num : Name → ℕ) (P : Program) (next : ℕ) (Z W : List Word) (i : 
   or_applies : (χ : Ctx goal) (ns : _) (j : ℕ) → In j (rules_of (or_kind χ)) → Applies χ (or ns) j
   unfolding asks_in effect node_defined rules_of or_kind
   or_applies top ns j m = absurd m
+  or_applies (in_or χ l r) ns j (inr i) = elim i [ ]
   or_applies (in_or χ l r) ns j (inl e) = for_rule j 14 e (record { shows = λ h. refl })
   or_applies (in_guard χ b) ns j m = absurd m
 
@@ -63,6 +69,9 @@ module _ (num : Name → ℕ) (P : Program) (next : ℕ) (Z W : List Word) (i : 
   listed (in_choice χ op l r) (guard g b) j s (inr (inl e)) = for_rule j 8 e (record { shows = λ h. and_true _ ∙ rule_8_applies num next i q s h })
   listed (in_choice χ op l r) (guard g b) j s (inr (inr (inl e))) = for_rule j 11 e (record { shows = λ h. and_true _ ∙ rule_11_applies num next i q s })
   listed (in_choice χ op l r) (guard g b) j s (inr (inr (inr (inl e)))) = for_rule j 13 e (record { shows = λ h. and_true _ ∙ rule_13_applies num next i q g s })
+  listed χ (and vs σ ms) j s (inr i) = elim i [ ]
+  listed (in_and χ vs σ l r) (choice_box op gs) j s (inr (inr (inr i))) = elim i [ ]
+  listed (in_choice χ op l r) (guard g b) j s (inr (inr (inr (inr i)))) = elim i [ ]
   listed χ (and vs σ ms) j s (inl e) = for_rule j 9 e (record { shows = λ h. and_true _ ∙ rule_9_applies num next i q s h })
   listed χ (or ns) j s m = or_applies χ ns j m
 

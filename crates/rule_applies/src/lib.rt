@@ -1,4 +1,6 @@
 // What the shape of a configuration decides of a rule's condition, and what it leaves to the solver.
+#![tactic(auto)]
+
 ghost use Rattle.std.specs.Prelude.{◌≡◌, ◌≤◌, length};
 ghost use Rattle.mem_words.specs.Words.{words};
 ghost use Rattle.rule_applies.specs.Asking.{asks_6, asks_7, asks_8, asks_10, asks_11, asks_12, asks_13, asks_in};
@@ -7,7 +9,7 @@ use mem_sorts::Kind;
 
 // The rule does not apply, it applies, or it asks the solver about the and-box at a position: it applies if the box's store is
 // quiet, or if the store and its environment share no solution.
-#[derive(Drop)]
+#[derive(Clone, Copy)]
 pub enum Asks {
     Never,
     Always,

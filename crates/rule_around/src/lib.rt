@@ -1,4 +1,6 @@
 // The bracket of lent words that is open at a position.
+#![tactic(auto)]
+
 ghost use Rattle.std.specs.Prelude.{◌≡◌, ◌-◌, ◌<◌, ◌≤◌, ◌^◌, length};
 ghost use Rattle.mem_words.specs.Words.{words};
 ghost use Rattle.rule_words.specs.Scans.{opens, higher, around};

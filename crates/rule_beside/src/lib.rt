@@ -1,4 +1,6 @@
 // Tests of what stands beside a guarded goal, and how many a choice-box has.
+#![tactic(auto)]
+
 ghost use Rattle.std.specs.Prelude.{◌≡◌, ◌≤◌, length};
 ghost use Rattle.mem_words.specs.Words.{words};
 ghost use Rattle.rule_effects.specs.Conditions.{right_at, left_at, one_at, more_at};

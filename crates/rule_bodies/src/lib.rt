@@ -1,4 +1,6 @@
 // The body of a program atom in the lent words of a program.
+#![tactic(auto)]
+
 ghost use Rattle.std.specs.Prelude.{◌≡◌, ◌+◌, ◌-◌, ◌≤◌, length};
 ghost use Rattle.mem_words.specs.Words.{words};
 ghost use Rattle.rule_effects.specs.Effects.{heads_match, body_of};

@@ -1,4 +1,6 @@
 // One clause of lent words appended as a guarded goal.
+#![tactic(auto)]
+
 ghost use Rattle.std.specs.Prelude.{◌+◌, ◌≤◌, length};
 ghost use Rattle.mem_words.specs.Words.{words};
 ghost use Rattle.rule_build.specs.Built.{Appended};

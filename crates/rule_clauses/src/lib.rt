@@ -1,4 +1,6 @@
 // Clauses of lent words appended as guarded goals, each with fresh variables.
+#![tactic(auto)]
+
 ghost use Rattle.std.specs.Prelude.{◌≡◌, ◌+◌, ◌≤◌, length};
 ghost use Rattle.mem_words.specs.Words.{words};
 ghost use Rattle.rule_build.specs.Built.{Appended};

@@ -1,4 +1,6 @@
 // Where a bracket of lent words closes.
+#![tactic(auto)]
+
 ghost use Rattle.std.specs.Prelude.{◌≡◌, ◌-◌, ◌<◌, ◌≤◌, ◌^◌, length};
 ghost use Rattle.mem_words.specs.Words.{words};
 ghost use Rattle.rule_words.specs.Scans.{closes, deeper, close};

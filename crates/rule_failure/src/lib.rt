@@ -1,4 +1,6 @@
 // Rules 9 and 10 on lent words: an and-box becomes failure.
+#![tactic(auto)]
+
 ghost use Rattle.std.specs.Prelude.{◌≤◌, length};
 ghost use Rattle.mem_words.specs.Words.{words};
 ghost use Rattle.rule_build.specs.Built.{Built};

@@ -1,4 +1,6 @@
 // A range of lent words appended with its outermost levels opened to fresh variables.
+#![tactic(auto)]
+
 ghost use Rattle.std.specs.Prelude.{map, ◌+◌, ◌≤◌, drop};
 ghost use Rattle.mem_words.specs.Words.{words, Small};
 ghost use Rattle.mem_copies.specs.Runs.{Copied};

@@ -1,4 +1,6 @@
 // Tests of the box at a position: solved, failure, or an or-box with parts.
+#![tactic(auto)]
+
 ghost use Rattle.std.specs.Prelude.{◌≡◌, ◌+◌, ◌≤◌, length};
 ghost use Rattle.mem_words.specs.Words.{words};
 ghost use Rattle.rule_effects.specs.Conditions.{solved_at, failure_at, parts_at};

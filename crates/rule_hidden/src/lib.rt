@@ -1,4 +1,6 @@
 // How many variables the clauses of lent words hide.
+#![tactic(auto)]
+
 ghost use Rattle.std.specs.Prelude.{◌≡◌};
 ghost use Rattle.mem_words.specs.Words.{words};
 ghost use Rattle.rule_effects.specs.Effects.{clause_sort, begins_clause};

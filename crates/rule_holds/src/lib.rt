@@ -1,4 +1,6 @@
 // What a goal holds, by positions.
+#![tactic(auto)]
+
 ghost use Rattle.std.specs.Prelude.{◌≡◌, ◌≤◌, length};
 ghost use Rattle.mem_words.specs.Words.{words};
 ghost use Rattle.rule_holds.specs.Holding.{within_at, holds_in, rewrites_in};

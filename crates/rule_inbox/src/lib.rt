@@ -1,4 +1,6 @@
 // The and-box around a member of lent words, with the ends of its locals and of its store: one scan back passes over both.
+#![tactic(auto)]
+
 ghost use Rattle.std.specs.Prelude.{◌≡◌, ◌≤◌, length};
 ghost use Rattle.mem_words.specs.Words.{words};
 ghost use Rattle.rule_words.specs.Scans.{closes, opens};
@@ -8,7 +10,7 @@ ghost use Rattle.rule_inbox.specs.Backwards.{Ends, Begun};
 use mem_words::Word;
 
 // Where a box opens, where its locals close and where its store closes.
-#[derive(Drop)]
+#[derive(Clone, Copy)]
 pub struct Inbox {
     pub at: usize,
     pub locals: usize,

@@ -27,7 +27,8 @@ use Rattle.rule_effects.specs.Conditions as conditions
 use Rattle.rule_effects.specs.Standing.{Stands}
 use Rattle.rule_effects.proofs.Frames.{before_seg, plug_seg, stands_seg, seg_word}
 use Rattle.rule_effects.proofs.Conditions.{kind_node}
-use Rattle.rule_kinds.specs.Kinds.{word_takes, or_takes, kind_takes, place_takes, takes_in, or_first, or_within}
+use Rattle.rule_kinds.specs.Kinds.{word_takes, or_takes, kind_takes, place_takes, takes_in, or_first}
+use Rattle.rule_kinds.proofs.OrLaws.{or_within}
 use Rattle.rule_kinds.proofs.Around.{or_around, guard_around}
 
 -- ---------------------------------------------------------------------------------------------

@@ -1,3 +1,4 @@
 pub mod Around
 pub mod KindWords
 pub mod Fits
+pub mod OrLaws

@@ -77,13 +77,5 @@ pub or_first : (W : List Word) (i : ℕ) → i ≡ 0 → 9 ≡ or_takes W i
 unfolding or_takes
 or_first W i e = ap (or_takes W) (sym e)
 
-pub or_within : (W : List Word) (i : ℕ) (b : Bool) → (i ≡ 0 → ⊥) → b ≡ kind_at W (around W i) Or → cond b 8 9 ≡ or_takes W i
-unfolding or_takes
-or_within W zero b n e = absurd (n refl)
-or_within W (suc i) b n e = ap (λ (x : Bool). cond x 8 9) e
-
-pub or_found : (W : List Word) (i a r : ℕ) (b : Bool) → (i ≡ 0 → ⊥) → a ≡ around W i → b ≡ kind_at W a Or → r ≡ cond b 8 9 → r ≡ or_takes W i
-or_found W i a r b n e f g = g ∙ or_within W i b n (f ∙ ap (λ (j : ℕ). kind_at W j Or) e)
-
 pub member_found : (W : List Word) (i r : ℕ) (w : Word) → w ≡ get_or W (i + 1) Bad → r ≡ word_takes w → r ≡ word_takes (get_or W (i + 1) Bad)
 member_found W i r w e f = f ∙ ap word_takes e

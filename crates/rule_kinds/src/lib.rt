@@ -1,4 +1,6 @@
 // The kind of place that stands at a position, as the table of rules tells them apart.
+#![tactic(auto)]
+
 ghost use Rattle.std.specs.Prelude.{◌≡◌, ◌+◌, ◌≤◌, length, get_or};
 ghost use Rattle.mem_words.specs.Words.{words};
 ghost use Rattle.mem_words.specs.declared.Word.TheVariants.{Bad};

@@ -1,4 +1,6 @@
 // All locals inside a goal of a configuration, marked in the working slice or unmarked.
+#![tactic(auto)]
+
 ghost use Rattle.std.specs.Prelude.{◌≡◌, ◌<◌};
 ghost use Rattle.mem_words.specs.Words.{words};
 ghost use Rattle.solve_fields.specs.Read.{Vars, var_of};

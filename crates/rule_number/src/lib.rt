@@ -1,4 +1,6 @@
 // A number read at any position.
+#![tactic(auto)]
+
 ghost use Rattle.std.specs.Prelude.{◌≡◌, ◌<◌, get_or};
 ghost use Rattle.mem_words.specs.declared.Word.TheVariants.{Bad};
 ghost use Rattle.mem_words.specs.Words.{words};

@@ -1,4 +1,6 @@
 // A range of lent words appended with its outermost levels opened to variables that stand in others.
+#![tactic(auto)]
+
 ghost use Rattle.std.specs.Prelude.{map};
 ghost use Rattle.mem_words.specs.Words.{words};
 ghost use Rattle.mem_copies.specs.Open.{open_word};

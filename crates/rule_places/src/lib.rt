@@ -1,4 +1,6 @@
 // Where a place stands in lent words, by its number.
+#![tactic(auto)]
+
 ghost use Rattle.std.specs.Prelude.{◌≡◌, ◌+◌, ◌*◌, ◌≤◌, length, drop};
 ghost use Rattle.mem_words.specs.Words.{words, word};
 ghost use Rattle.store_words.specs.Contexts.{place_at};
@@ -44,14 +46,14 @@ fn passes(w: Word, p: u64) -> u64
 }
 
 // How far a search is, and how many places are still before the one that is looked for.
-#[derive(Drop)]
+#[derive(Clone, Copy)]
 pub struct Ahead {
     pub at: usize,
     pub left: u64,
 }
 
 // A position, and how many places begin before it: a search for a later place can begin there.
-#[derive(Drop)]
+#[derive(Clone, Copy)]
 pub struct Finger {
     pub at: usize,
     pub before: u64,

@@ -1,1 +1,2 @@
 // The stores of the and-boxes around a position: definitions, and laws that they are a place's environment. No code.
+#![tactic(auto)]

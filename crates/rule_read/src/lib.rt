@@ -1,4 +1,6 @@
 // A word read at any position.
+#![tactic(auto)]
+
 ghost use Rattle.mem_words.specs.Words.{words, Read};
 
 use mem_words::Word;

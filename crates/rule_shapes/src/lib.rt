@@ -1,4 +1,6 @@
 // Single words of a configuration tested: whether a bracket ends there, which kind of place begins.
+#![tactic(auto)]
+
 ghost use Rattle.std.specs.Prelude.{◌≡◌};
 ghost use Rattle.mem_words.specs.Words.{words};
 ghost use Rattle.rule_words.specs.Scans.{closes};

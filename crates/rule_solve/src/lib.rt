@@ -1,5 +1,7 @@
 // The solver asked of the stores around a position of a configuration. Between two questions nothing is told and no variable is marked:
 // a question takes back what it told, and costs that and not what the tables hold.
+#![tactic(auto)]
+
 ghost use Rattle.std.specs.Prelude.{[], ◌++◌, ◌+◌, ◌<◌, ◌≤◌, length};
 ghost use Rattle.mem_words.specs.Words.{words};
 ghost use Rattle.mem_parts.specs.Parts.{Outside};

@@ -1,10 +1,12 @@
 // The table of the fourteen rules: the kind of place each takes, whether it is determinate, and what it rewrites.
+#![tactic(auto)]
+
 ghost use Rattle.std.specs.Prelude.{◌≡◌, ◌<◌};
 ghost use Rattle.akl.specs.Table.{rule_row};
 ghost use Rattle.rule_table.specs.Rows.{takes_no, row_in};
 
 // The kinds of places that rules take. An or-box that is a member of an or-box is told from the others.
-#[derive(Drop)]
+#[derive(Clone, Copy)]
 pub enum Takes {
     ConstraintAtom,
     ProgramAtom,
@@ -18,21 +20,21 @@ pub enum Takes {
     OtherOrBox,
 }
 
-#[derive(Drop)]
+#[derive(Clone, Copy)]
 pub enum Mode {
     Determinate,
     Nondeterminate,
 }
 
 // What a rule rewrites: what stands at its place, or the box that holds it.
-#[derive(Drop)]
+#[derive(Clone, Copy)]
 pub enum Rewrites {
     Itself,
     Holder,
 }
 
 // A row of the table, if there is one.
-#[derive(Drop)]
+#[derive(Clone, Copy)]
 pub enum Row {
     Absent,
     Rule(Takes, Mode, Rewrites),

@@ -1,4 +1,6 @@
 // The stores of the and-boxes around a position of a configuration, told to the solver on top of a mark.
+#![tactic(auto)]
+
 ghost use Rattle.std.specs.Prelude.{[], ◌≤◌, length};
 ghost use Rattle.mem_words.specs.Words.{words};
 ghost use Rattle.work_enter.specs.Enters.{CanEnter};
@@ -10,7 +12,7 @@ use solve_tells::Told;
 
 // All stores were told, and these are the used words of the log, the length of the trail and the applications; or they have no
 // solution with what was told before, and this is the length of the trail, from which what was told can be taken back.
-#[derive(Drop)]
+#[derive(Clone, Copy)]
 pub enum Around {
     All(usize, usize, usize),
     Failed(usize),

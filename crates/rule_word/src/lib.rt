@@ -1,4 +1,6 @@
 // Single words appended to those that are built in a lent slice.
+#![tactic(auto)]
+
 ghost use Rattle.std.specs.Prelude.{[], ◌∷◌};
 ghost use Rattle.mem_words.specs.Words.{words, Small};
 ghost use Rattle.rule_build.specs.Built.{Appended};

@@ -30,6 +30,7 @@ allowed_append q (a ∷ x) y ρ =
     (λ h. elim h [ inl e ↦ inl (inl e) | inr i ↦ elim (ih.0 i) [ inl j ↦ inl (inr j) | inr j ↦ inr j ] ], λ h. elim h [ inl i ↦ elim i [ inl e ↦ inl e | inr j ↦ inr (ih.1 (inl j)) ] | inr j ↦ inr (ih.1 (inr j)) ])
 
 pub allowed_in : (q : ℕ) (a : Answer) (x : List Answer) (ρ : Asg) → AnswerIn a x → Allows q a ρ → AllowedBy q x ρ
+allowed_in q a [] ρ i h = elim i [ ]
 allowed_in q a (b ∷ x) ρ (inl e) h = inl (subst (λ z. Allows q z ρ) e h)
 allowed_in q a (b ∷ x) ρ (inr i) h = inr (allowed_in q a x ρ i h)
 
@@ -62,9 +63,12 @@ module _ (Q : Model) (q : ℕ) (ρ : Asg) where
   -- a box that is an answer
   one_complete : (n : Node goal) → T (is_answer n) → HoldsWith n Q q ρ nothing → AllowedBy q (answers n) ρ
   unfolding answers
+  one_complete (or _) t h = elim t [ ]
+  one_complete (and vs σ (cons _ _)) t h = elim t [ ]
   one_complete (and vs σ nil) t h = go (satisfiable? σ) t
     where
       go : (b : Bool) → T b → AllowedBy q (if b ((vs, σ) ∷ []) []) ρ
+      go false u = elim u [ ]
       go true u = inl (h.0, h.1, h.2)
 
   all_complete : (ns : Nodes goal) → T (all_answers ns) → Any ns Q q ρ nothing → AllowedBy q (answers_all ns) ρ

@@ -51,6 +51,7 @@ module _ (limit : ℕ) (P : Program) where
 -- which answer allows the trees
 allowing : (q : ℕ) (l : List Answer) (ρ : Asg) → AllowedBy q l ρ → (i : ℕ) × (a : Answer) × (nth l i ≡ some a) × Allows q a ρ
 unfolding nth
+allowing q [] ρ i = elim i [ ]
 allowing q (a ∷ l) ρ (inl h) = (0, a, refl, h)
 allowing q (a ∷ l) ρ (inr h) = let w = allowing q l ρ h in (suc w.0, w.1, w.2, w.3)
 

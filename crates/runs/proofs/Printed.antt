@@ -117,6 +117,12 @@ all_words (x ∷ f) h =
     (and_T (word_class (class_of x)) (all (λ y. word_class (class_of y)) f)).1 (go (class_of x) k.0, all_words f k.1)
   where
     go : (c : Class) → T (digit_class c) → T (word_class c)
+    go small t = elim t [ ]
+    go capital t = elim t [ ]
+    go underscore t = elim t [ ]
+    go blank t = elim t [ ]
+    go mark t = elim t [ ]
+    go other t = elim t [ ]
     go digit t = tt
 
 -- it begins with a small letter or a digit, and so not with an underscore
@@ -129,6 +135,7 @@ unfolding spelled_name spelled_digits class_of
 label_word f h = elim ((or_T (spelled_name f) (spelled_digits f)).0 h) [ inl a ↦ by_name a | inr a ↦ by_digits a ]
   where
     starts : (p : Class → Bool) → (T (p underscore) → ⊥) → (w : List ℕ) → T (begins p w) → Begins w
+    starts p n [] t = elim t [ ]
     starts p n (x ∷ w) t = λ e. n (subst (λ z. T (p (class_of z))) e t)
 
     by_name : T (spelled_name f) → Word f × Begins f
@@ -175,6 +182,7 @@ not_both r s h e = go (subst Stop e h)
     go (inr q) = omega arith
 
 begins_not : (f r s : List ℕ) → Begins f → f ++ r ≡ 95 ∷ s → ⊥
+begins_not [] r s b e = elim b [ ]
 begins_not (x ∷ f) r s b e = b (heads x 95 (f ++ r) s e).0
 
 -- a term and the rest of a list
@@ -221,6 +229,14 @@ mutual
 
 bindings_inj : (xs : List Name) (ss ts : Terms) → AsMany xs ss → AsMany xs ts → SpelledTerms ss → SpelledTerms ts → bindings_bytes xs ss ≡ bindings_bytes xs ts → ss ≡ ts
 unfolding bindings_bytes bytes bytes_from
+bindings_inj [] no_terms (more_terms t ts) m n p q e = elim n [ ]
+bindings_inj [] (more_terms s ss) ts m n p q e = elim m [ ]
+bindings_inj (x ∷ []) no_terms ts m n p q e = elim m [ ]
+bindings_inj (x ∷ []) (more_terms s no_terms) no_terms m n p q e = elim n [ ]
+bindings_inj (x ∷ []) (more_terms s no_terms) (more_terms t (more_terms _ _)) m n p q e = elim n [ ]
+bindings_inj (x ∷ []) (more_terms s (more_terms _ _)) ts m n p q e = elim m [ ]
+bindings_inj (x ∷ (y ∷ xs)) no_terms ts m n p q e = elim m [ ]
+bindings_inj (x ∷ (y ∷ xs)) (more_terms s ss) no_terms m n p q e = elim n [ ]
 bindings_inj [] no_terms no_terms m n p q e = refl
 bindings_inj (x ∷ []) (more_terms s no_terms) (more_terms t no_terms) m n p q e =
     let w = term_inj s t p.0 q.0 [] [] tt tt (append-nil (term_bytes s) ∙ cancel (x ++ (32 ∷ 61 ∷ 32 ∷ [])) (term_bytes s) (term_bytes t) e ∙ sym (append-nil (term_bytes t))) in
@@ -239,5 +255,7 @@ bindings_inj (x ∷ (y ∷ xs)) (more_terms s ss) (more_terms t ts) m n p q e =
 
 -- The bytes of a line determine its terms.
 pub line_inj : (xs : List Name) (ss ts : Terms) → AsMany xs ss → AsMany xs ts → SpelledTerms ss → SpelledTerms ts → line_bytes xs ss ≡ line_bytes xs ts → ss ≡ ts
+line_inj [] no_terms (more_terms _ _) m n p q e = elim n [ ]
+line_inj [] (more_terms _ _) ts m n p q e = elim m [ ]
 line_inj [] no_terms no_terms m n p q e = refl
 line_inj (x ∷ xs) ss ts m n p q e = bindings_inj (x ∷ xs) ss ts m n p q e

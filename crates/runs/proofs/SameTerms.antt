@@ -57,6 +57,7 @@ mutual
 
 position_in : (r : ℕ) (a b : List ℕ) → In r a → (position r (a ++ b) ≡ position r a) × (position r a < size a)
 unfolding position size
+position_in r [] b i = elim i [ ]
 position_in r (x ∷ a) b i = go (eqb r x) (λ e. subst (λ z. T (eqb r z)) e (eqb_refl r)) i (λ j. position_in r a b j)
   where
     go : (c : Bool) → (r ≡ x → T c) → (r ≡ x) ⊎ In r a → (In r a → (position r (a ++ b) ≡ position r a) × (position r a < size a)) → (if c 0 (suc (position r (a ++ b))) ≡ if c 0 (suc (position r a))) × (if c 0 (suc (position r a)) < suc (size a))
@@ -69,6 +70,7 @@ unfolding position size
 position_new r [] b n = go (eqb r r) (eqb_refl r)
   where
     go : (c : Bool) → T c → if c 0 (suc (position r b)) ≡ 0
+    go false t = elim t [ ]
     go true t = refl
 position_new r (x ∷ a) b n = go (eqb r x) (λ t. n (inl (eqb→eq r x t))) (position_new r a b (λ i. n (inr i)))
   where

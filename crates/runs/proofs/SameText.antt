@@ -235,6 +235,7 @@ stored_spelled [] h = tt
 stored_spelled (c ∷ σ) h = let k = (and_T (stored_fits c) (all stored_fits σ)).0 h in (go c k.0, stored_spelled σ k.1)
   where
     go : (d : Con ℕ) → T (stored_fits d) → SpelledCon d
+    go ctrue t = elim t [ ]
     go cfail t = tt
     go (ceq x y) t = tt
     go (capp x f ys) t = ((and_T (few ys) (spelled_name f || spelled_digits f)).0 t).1

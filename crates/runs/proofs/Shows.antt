@@ -79,6 +79,7 @@ trees_range ρ ρ' q h = trees_agree ρ ρ' (range 0 q) (λ x i. h x (below x (r
     below x k = omega arith
 
 forest_head : (ρ : Asg) (ys : List ℕ) (ρ' : Asg) → trees ρ ys ≡ trees ρ' ys → (y : ℕ) → In y ys → ρ y ≡ ρ' y
+forest_head ρ [] ρ' e y i = elim i [ ]
 forest_head ρ (z ∷ ys) ρ' e y (inl q) = ap ρ q ∙ cc e ∙ ap ρ' (sym q)
 forest_head ρ (z ∷ ys) ρ' e y (inr i) = forest_head ρ ys ρ' (cc e) y i
 
@@ -152,6 +153,7 @@ at_position (suc i) (x ∷ l) = at_position i l
 
 position_at : (r : ℕ) (l : List ℕ) → In r l → at_position (position r l) l ≡ r
 unfolding at_position position
+position_at r [] i = elim i [ ]
 position_at r (x ∷ l) i = go (eqb r x) (λ t. eqb→eq r x t) (λ e. subst (λ z. T (eqb r z)) e (eqb_refl r)) i (λ j. position_at r l j)
   where
     go : (b : Bool) → (T b → r ≡ x) → (r ≡ x → T b) → (r ≡ x) ⊎ In r l → (In r l → at_position (position r l) l ≡ r) → at_position (if b 0 (suc (position r l))) (x ∷ l) ≡ r

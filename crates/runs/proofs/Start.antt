@@ -65,6 +65,7 @@ module _ (P : Program) (good : T (program_passes P)) (q : Query) (f : QueryFits 
   start_solutions limit c e ρ = subst (λ d. Solution P n d ρ ↔ QuerySolution P q ρ) ((limits_iff limit (start_config q) c).0 e).0 (to_it, from_it)
     where
       to_it : HoldsWith root₀ (Atoms P) n ρ nothing → Holds q.statement (Atoms P) ρ []
+      to_it (inr i) = elim i [ ]
       to_it (inl h) = holds_on (Atoms P) h.0 ρ q.statement [] (λ x i. sym (h.1 x (hides_none x))) h.3.0.0
 
       from_it : Holds q.statement (Atoms P) ρ [] → HoldsWith root₀ (Atoms P) n ρ nothing

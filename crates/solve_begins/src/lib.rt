@@ -1,4 +1,6 @@
 // Which constraint a word begins.
+#![tactic(auto)]
+
 ghost use Rattle.std.specs.Prelude.{◌≡◌};
 ghost use Rattle.solve_begins.specs.Begins.{begins_of, begins_sort};
 

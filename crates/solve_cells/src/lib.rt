@@ -1,4 +1,6 @@
 // Cells of variables in lent bytes, each a link to another variable or a root.
+#![tactic(auto)]
+
 ghost use Rattle.mem_numbers.specs.Numbers.{triples};
 ghost use Rattle.solve_cells.specs.Cells.{Found, CanFind};
 

@@ -1,5 +1,7 @@
 // Which of two representatives in a table of cells goes below the other. Classes are joined by rank without shortening paths,
 // so that every change can be taken back from a trail.
+#![tactic(auto)]
+
 ghost use Rattle.std.specs.Prelude.{◌≡◌, ◌<◌, length};
 ghost use Rattle.mem_numbers.specs.Numbers.{triples};
 ghost use Rattle.solve_classes.specs.Means.{Order};

@@ -27,6 +27,7 @@ use Rattle.solve_explores.specs.Search.{cell_of, Leads, Ends, Settled, Lower, wh
 use Rattle.solve_explores.proofs.Searching.{settled_kept, lower_kept, lower_settled, frame_kept, white_some, whites_same, whites_less}
 
 in_left : (y : ℕ) (a b : List ℕ) → In y a → In y (a ++ b)
+in_left y [] b i = elim i [ ]
 in_left y (x ∷ a) b (inl e) = inl e
 in_left y (x ∷ a) b (inr h) = inr (in_left y a b h)
 
@@ -69,6 +70,7 @@ module _ (W : List Word) (P T M K D : List ℕ) (a h q : ℕ) (S : Search W P T 
 
       go : (z : ℕ) → In z f.done ⊎ In z (y ∷ []) → Settled T M z
       go z (inl m) = f.settled z m
+      go z (inr (inr i)) = elim i [ ]
       go z (inr (inl m)) = subst (Settled T M) (sym m) st
 
   pub advanced : Search W P T M K D' a h q

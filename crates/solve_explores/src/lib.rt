@@ -1,10 +1,12 @@
 // What the search for a cycle of bindings meets: the class of an application's argument.
+#![tactic(auto)]
+
 ghost use Rattle.mem_numbers.specs.Numbers.{triples};
 ghost use Rattle.mem_words.specs.Words.{words};
 ghost use Rattle.solve_explores.specs.Search.{ChildAt, CanLook};
 
 // What an application's argument leads to: there is none, or an unbound class, or the application of a bound one.
-#[derive(Drop)]
+#[derive(Clone, Copy)]
 pub enum Child {
     Last,
     Open,

@@ -1,4 +1,6 @@
 // Constraints as words: the word at a position, its variable and its number, and the one comparison of labels.
+#![tactic(auto)]
+
 ghost use Rattle.std.specs.Prelude.{◌≡◌, get_or};
 ghost use Rattle.mem_numbers.specs.Decides.{Decides};
 ghost use Rattle.mem_words.specs.Words.{words};

@@ -1,4 +1,6 @@
 // Whether the variables of words have cells.
+#![tactic(auto)]
+
 ghost use Rattle.mem_words.specs.Words.{words};
 ghost use Rattle.solve_fits.specs.Fits.{Bounded};
 

@@ -7,3 +7,4 @@ pub mod Ranges
 pub mod Counts
 pub mod Telling
 pub mod Rooms
+pub mod Reach

@@ -16,7 +16,7 @@ use Rattle.mem_words.specs.declared.Word.TheVariants.{End, Free, Level, Num, Pla
 use Rattle.solve_cells.specs.Cells.{Up}
 use Rattle.solve_classes.specs.Means.{Fits, Pend, Apps, OldApps, OldVars, Joined, CanJoin}
 use Rattle.solve_fields.specs.Read.{var_of, num_of, is_var, args_of, label_at, args_at, tree_at, Distinct, Vars}
-use Rattle.solve_tells.specs.Reach.{var_in}
+use Rattle.solve_tells.proofs.Reach.{var_in}
 use Rattle.solve_tells.specs.Steps.{Step, Sound, CanMeet, Met}
 use Rattle.solve_tells.proofs.Trails.{pend_split, apps_split, pend_none, apps_none, step_none, step_then, step_joined}
 

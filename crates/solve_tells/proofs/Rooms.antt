@@ -14,7 +14,8 @@ use Rattle.mem_words.specs.declared.Word.TheVariants.{End, Free, Level, Num, Pla
 use Rattle.solve_classes.specs.Means.{Within, OldIn}
 use Rattle.solve_classes.specs.Weights.{weights, weights_in}
 use Rattle.solve_fields.specs.Read.{var_of}
-use Rattle.solve_tells.specs.Reach.{vars_of, var_in}
+use Rattle.solve_tells.specs.Reach.{vars_of}
+use Rattle.solve_tells.proofs.Reach.{var_in}
 use Rattle.solve_tells.specs.Draws.{Drawn}
 use Rattle.solve_tells.specs.Tells.{Left, Lacks, Stopped}
 

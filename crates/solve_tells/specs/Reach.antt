@@ -17,38 +17,6 @@ vars_of (Place k ∷ r) = vars_of r
 vars_of (Inner s ∷ r) = vars_of r
 vars_of (Bad ∷ r) = vars_of r
 
-zero_in : (W : List Word) → In 0 (vars_of W)
-unfolding vars_of
-zero_in [] = inl refl
-zero_in (End ∷ r) = zero_in r
-zero_in (Free v ∷ r) = inr (zero_in r)
-zero_in (Level v ∷ r) = zero_in r
-zero_in (Num v ∷ r) = zero_in r
-zero_in (Place k ∷ r) = zero_in r
-zero_in (Inner s ∷ r) = zero_in r
-zero_in (Bad ∷ r) = zero_in r
-
-at_in : (W : List Word) (i : ℕ) → In (var_of (get_or W i Bad)) (vars_of W)
-unfolding vars_of
-at_in [] i = inl refl
-at_in (End ∷ r) zero = zero_in r
-at_in (Free v ∷ r) zero = inl refl
-at_in (Level v ∷ r) zero = zero_in r
-at_in (Num v ∷ r) zero = zero_in r
-at_in (Place k ∷ r) zero = zero_in r
-at_in (Inner s ∷ r) zero = zero_in r
-at_in (Bad ∷ r) zero = zero_in r
-at_in (End ∷ r) (suc i) = at_in r i
-at_in (Free v ∷ r) (suc i) = inr (at_in r i)
-at_in (Level v ∷ r) (suc i) = at_in r i
-at_in (Num v ∷ r) (suc i) = at_in r i
-at_in (Place k ∷ r) (suc i) = at_in r i
-at_in (Inner s ∷ r) (suc i) = at_in r i
-at_in (Bad ∷ r) (suc i) = at_in r i
-
-pub var_in : (W : List Word) (i x : ℕ) → x ≡ var_of (get_or W i Bad) → In x (vars_of W)
-var_in W i x e = subst (λ (z : ℕ). In z (vars_of W)) (sym e) (at_in W i)
-
 -- no more than the words
 pub vars_most : (W : List Word) → length (vars_of W) ≤ length W + 1
 unfolding vars_of

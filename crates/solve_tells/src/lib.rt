@@ -1,8 +1,9 @@
 // How telling constraints to the tables goes: one step of it, and the whole. A mark is the length of the trail and the number of
 // applications. The functions are those of work_meets to work_ranges; definitions and laws stand here.
+#![tactic(auto)]
 
 // How a step went, with the length of the trail after it: on, or to a clash, or to where the trail is full.
-#[derive(Drop)]
+#[derive(Clone, Copy)]
 pub enum Went {
     On(usize),
     Clash(usize),
@@ -10,7 +11,7 @@ pub enum Went {
 }
 
 // How telling went, with the mark after it: all was told, or it failed by a clash, or a table has no room.
-#[derive(Drop)]
+#[derive(Clone, Copy)]
 pub enum Told {
     All(usize, usize),
     Failed(usize, usize),

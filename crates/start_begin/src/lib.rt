@@ -1,5 +1,7 @@
 // From two texts to a store, with tables of its own on the stack: 1 to 7 come before 8, so that texts are judged even where the lent
 // slices are too short. The tables have 528,950 bytes together.
+#![tactic(auto)]
+
 ghost use Rattle.std.specs.Prelude.{◌≡◌, length};
 ghost use Rattle.start_outcome.specs.Outcome.{StartTo};
 ghost use Rattle.start_begin.specs.Short.{Within};

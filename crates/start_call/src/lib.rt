@@ -1,4 +1,6 @@
 // The start of a query: from a program text and a query text to a store, on any slices.
+#![tactic(auto)]
+
 ghost use Rattle.start_outcome.specs.Outcome.{StartTo};
 ghost use Rattle.start_call.specs.Called.{StartCalled};
 

@@ -1,4 +1,6 @@
 // The words of a query's first configuration.
+#![tactic(auto)]
+
 ghost use Rattle.std.specs.Prelude.{◌+◌, [], ◌∷◌, take};
 ghost use Rattle.mem_words.specs.Words.{words};
 ghost use Rattle.start_config.specs.Grown.{Grown, frees, first_words};

@@ -1,4 +1,6 @@
 // All regions of a store written.
+#![tactic(auto)]
+
 ghost use Rattle.std.specs.Prelude.{◌*◌, take};
 ghost use Rattle.start_fill.specs.Filled.{CanFill, Filled, Known};
 

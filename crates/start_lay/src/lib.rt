@@ -1,4 +1,6 @@
 // The store of a query's start, written from what the reader of texts leaves.
+#![tactic(auto)]
+
 ghost use Rattle.std.specs.Prelude.{◌≡◌, length, take};
 ghost use Rattle.mem_numbers.specs.Numbers.{shorts};
 ghost use Rattle.mem_words.specs.Words.{words};

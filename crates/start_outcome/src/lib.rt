@@ -1,1 +1,2 @@
 // No code: what a start hands back, and the store that it leaves.
+#![tactic(auto)]

@@ -1,4 +1,6 @@
 // The start of a query whose texts are read: 8 where a slice is too short, 15 where it has too many parts, else the store is written.
+#![tactic(auto)]
+
 ghost use Rattle.std.specs.Prelude.{take};
 ghost use Rattle.mem_numbers.specs.Numbers.{shorts};
 ghost use Rattle.mem_words.specs.Words.{words};

@@ -1,4 +1,6 @@
 // From two texts to a store, with tables that are lent.
+#![tactic(auto)]
+
 ghost use Rattle.mem_numbers.specs.Numbers.{shorts, triples};
 ghost use Rattle.mem_words.specs.Words.{words};
 ghost use Rattle.start_outcome.specs.Outcome.{StartTo};

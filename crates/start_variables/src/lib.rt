@@ -1,4 +1,6 @@
 // The names of a query's variables, as a store has them.
+#![tactic(auto)]
+
 ghost use Rattle.mem_numbers.specs.Numbers.{shorts, triples};
 ghost use Rattle.start_variables.specs.Widened.{CanWiden, Widened};
 

@@ -1,7 +1,7 @@
 -- What stands at a position of a state's words is a part of its configuration: words are those of one configuration only. So it is
 -- well formed there, and the solver has room.
 use mathlib.Core.Path.{◌≡◌, refl, ap, sym, ◌∙◌, subst}
-use mathlib.Core.Bool.{Bool, true, ◌&&◌}
+use mathlib.Core.Bool.{Bool, true, ◌&&◌, false}
 use mathlib.Core.List.{List, [], ◌∷◌}
 use Prim.Native.Nat.{ℕ, zero, suc, ◌<◌}
 use native.Mathlib.Omega.{arith}
@@ -80,7 +80,7 @@ module _ {W D : List Word} {s : State} (m : Meant W D s) {k : akl.Kind} {χ : Ct
       let F = m.stands.fits in
       let e : node_words num s.config.root [] ≡ node_words num (plug χ n) [] = sym m.config ∙ p.whole in
       let back : (f : Name) → number_in (table s) f < _ → named (table s) (number_in (table s) f) ≡ f = λ f h. (number_back (table s) f h).0 in
-      let a = small_all (config_words s) F.words_Small in
+      let a = small_all (config_words s) F.words_small in
       (node_once num (named (table s)) s.config.root (plug χ n) [] []
       (node_small num (named (table s)) back s.config.root [] a).0
       (node_small num (named (table s)) back (plug χ n) [] (subst AllSmall e a)).0 e).0
@@ -93,6 +93,7 @@ module _ {W D : List Word} {s : State} (m : Meant W D s) {k : akl.Kind} {χ : Ct
 -- A program atom is defined.
 
 is_true : (b : Bool) → T b → b ≡ true
+is_true false t = elim t [ ]
 is_true true t = refl
 
 passes_defined : (P : Program) (s : Stmt) → T (statement_passes P (λ x. true) 0 s) → statement_defined P s ≡ true

@@ -1,4 +1,6 @@
 // Whether a rule applies at a place: what the shape of the configuration leaves open, the solver is asked.
+#![tactic(auto)]
+
 ghost use Rattle.mem_words.specs.Words.{words};
 ghost use Rattle.rule_solve.specs.Idle.{Idle};
 ghost use Rattle.step_meant.specs.Asked.{Applies, CanApply};

@@ -155,6 +155,7 @@ module _ (W D : List Word) (r p a : ℕ) where
         rest s t.row h.0 i m q t.is_row h.1 ∙ go (fits_row t.row h.0) t.fits _
       where
         go : (b : Bool) → T b → (x : Result Config) → (elim b as (λ z. Result Config) [ false ↦ refused 12 | true ↦ x ]) ≡ x
+        go false t x = elim t [ ]
         go true t x = refl
 
     pub no_condition : (b : Bool) → HasCondition W D r a i b → b ≡ false → Refuses W D (step_of r p a) 13

@@ -1,4 +1,6 @@
 // What is decided of a step before anything is written: its refusal, 10 to 13, or where its place stands.
+#![tactic(auto)]
+
 ghost use Rattle.std.specs.Prelude.{◌≡◌, ◌≤◌, length};
 ghost use Rattle.akl.specs.Table.{rule_row};
 ghost use Rattle.mem_words.specs.Words.{words};
@@ -13,7 +15,7 @@ use rule_places::Finger;
 use rule_table::Row;
 
 // A step's refusal, or where its place stands.
-#[derive(Drop)]
+#[derive(Clone, Copy)]
 pub enum Decision {
     No(usize),
     At(usize),

@@ -1,4 +1,6 @@
 // Which rules can lead to a configuration with more parts, and which of them put a piece at their place.
+#![tactic(auto)]
+
 ghost use Rattle.std.specs.Prelude.{◌≡◌};
 ghost use Rattle.step_fewer.specs.Adding.{adds_parts, itself};
 

@@ -1,4 +1,6 @@
 // The stack of a walk over the and-boxes of a goal, in the working slice: for each that is open what was before it.
+#![tactic(auto)]
+
 ghost use Rattle.mem_numbers.specs.Numbers.{Got};
 ghost use Rattle.work_tables.specs.Tables.{CanRead, CanWrite};
 ghost use Rattle.step_frames.specs.Frames.{frames_of, PutSlot, CanPush, Pushed};

@@ -1,6 +1,8 @@
 // The solved guards of a goal tested in one walk over its words: is one quiet for which rule 6, 7 or 8 waits? The stores are told and taken
 // back as the boxes are entered and left. Before and afterwards nothing is told and no variable is marked; where an and-box has no solution
 // all cells are made zero.
+#![tactic(auto)]
+
 ghost use Rattle.mem_words.specs.Words.{words};
 ghost use Rattle.rule_solve.specs.Idle.{Idle};
 ghost use Rattle.step_turn.specs.Stood.{CanWalk};

@@ -31,7 +31,7 @@ module _ (limit : ℕ) (s : State) (F : Fits limit s) where
   pub root_is : (g : Node goal) → config_words s ≡ node_words (number_in (table s)) g [] → g ≡ s.config.root
   unfolding config_words
   root_is g e =
-      let a = small_all (config_words s) F.words_Small in
+      let a = small_all (config_words s) F.words_small in
       (node_once (number_in (table s)) (named (table s)) g s.config.root [] [] (spelt g (subst AllSmall e a)) (spelt s.config.root a) (sym e)).0
 
   pub whole_is : (W : List Word) → W ≡ config_words s → (pl : Place) (i : ℕ) → StandsAt s W pl i → whole pl ≡ s.config.root

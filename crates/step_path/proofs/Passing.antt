@@ -15,7 +15,8 @@ use Rattle.rule_effects.specs.Conditions.{ends_at}
 use Rattle.step_open.specs.Opened.{Opened, Chain}
 use Rattle.step_open.proofs.Turns.{false_true, opening_closes, around_in}
 use Rattle.step_open.proofs.Chains.{chain_few, opened_in, opened_out, opened_keep, opened_none}
-use Rattle.step_path.specs.Paths.{path_of, length_path, Placed, Path, Before, CanPass, Passed, PutPlace}
+use Rattle.step_path.specs.Paths.{path_of, Placed, Path, Before, CanPass, Passed, PutPlace}
+use Rattle.step_path.proofs.Paths.{length_path}
 
 -- entries above are of no matter
 placed_kept : (P Q os : List ℕ) → ((i : ℕ) → i < length os → get_or Q i 0 ≡ get_or P i 0) → Placed P os → Placed Q os

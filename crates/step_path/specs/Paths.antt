@@ -1,22 +1,17 @@
 -- Where the brackets open that are open on a walk over the words of a goal: 28,672 numbers of two bytes, from 466,944 on in the working
 -- slice, the outermost first. Assumes nothing.
-use Rattle.std.specs.Prelude.{◌≡◌, true, List, [], ◌∷◌, ℕ, ◌+◌, ◌-◌, ◌/◌, ◌<◌, ◌≤◌, length, get_or}
-use Rattle.std.proofs.Common.{ap, ◌∙◌, arith}
-use Rattle.mem_numbers.specs.Numbers.{shorts, length_shorts}
+use Rattle.std.specs.Prelude.{◌≡◌, true, List, [], ◌∷◌, ℕ, ◌+◌, ◌<◌, ◌≤◌, length, get_or}
+use Rattle.mem_numbers.specs.Numbers.{shorts}
 use Rattle.mem_numbers.specs.Stored.{Stored}
 use Rattle.mem_words.specs.declared.Word.{Word}
 use Rattle.mem_words.specs.declared.Word.TheVariants.{Bad}
-use Rattle.mem_parts.specs.Parts.{cut, length_cut, Outside, CanGet, CanSet}
-use Rattle.work_tables.specs.Tables.{Laid, CanRead, CanWrite}
+use Rattle.mem_parts.specs.Parts.{cut, Outside}
+use Rattle.work_tables.specs.Tables.{Laid}
 use Rattle.rule_words.specs.Scans.{opens, close}
 use Rattle.step_open.specs.Opened.{Opened}
 
 unfoldable pub path_of : List ℕ → List ℕ
 path_of L = shorts (cut 466944 524288 L)
-
-pub length_path : {L : List ℕ} → Laid L → length (path_of L) ≡ 28672
-unfolding path_of
-length_path {L} h = let k = h.long in let n : length (cut 466944 524288 L) ≡ 57344 = length_cut 466944 524288 L (omega arith) in length_shorts (cut 466944 524288 L) ∙ ap (λ (n : ℕ). n / 2) n
 
 -- the table P has the brackets os, the innermost first
 unfoldable pub Placed : List ℕ → List ℕ → Type 0
@@ -51,11 +46,3 @@ pub record Passed (W : List Word) (L : List ℕ) (j h : ℕ) (X : List ℕ) (r :
 pub record PutPlace (L : List ℕ) (i v : ℕ) (X : List ℕ) : Type 0 where
   pub list : Stored (path_of L) i v (path_of X)
   pub rest : Outside 466944 524288 L X
-
-pub can_get : {L : List ℕ} {i : ℕ} → CanRead L 28672 i → CanGet 466944 524288 L (shorts (cut 466944 524288 L)) i
-unfolding path_of
-can_get h = record { le = omega arith; fits = omega (arith, h.laid.long); inside = omega (arith, h.inside, length_path h.laid) }
-
-pub can_put : {L : List ℕ} {i v : ℕ} → CanWrite L 28672 i 65536 v → CanSet 466944 524288 L (shorts (cut 466944 524288 L)) i 65536 v
-unfolding path_of
-can_put h = record { le = omega arith; fits = omega (arith, h.laid.long); inside = omega (arith, h.inside, length_path h.laid); small = h.small }

@@ -1,4 +1,6 @@
 // Where the brackets open that are open on a walk, in the working slice: the innermost is found without a scan back over the words.
+#![tactic(auto)]
+
 ghost use Rattle.std.specs.Prelude.{◌≡◌};
 ghost use Rattle.mem_numbers.specs.Numbers.{Got};
 ghost use Rattle.mem_words.specs.Words.{words};

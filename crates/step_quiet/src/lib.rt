@@ -1,4 +1,6 @@
 // The quiet test on a walk over boxes, since any of its marks.
+#![tactic(auto)]
+
 ghost use Rattle.step_quiet.specs.Silence.{CanSilence, Silence};
 
 use solve_quiet::Calm;

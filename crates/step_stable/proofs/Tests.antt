@@ -39,6 +39,7 @@ nth_below (y ∷ l) (suc j) x e = let h = nth_below l j x e in omega (arith, h)
 
 pub any_nth : {A : Type 0} (p : A → Bool) (l : List A) → T (any p l) → (j : ℕ) × (x : A) × (nth l j ≡ some x) × T (p x)
 unfolding any nth
+any_nth {A = A} p [] h = elim h [ ]
 any_nth p (y ∷ l) h = elim ((or_T (p y) (any p l)).0 h) [ inl t ↦ (0, y, refl, t) | inr t ↦ let w = any_nth p l t in (suc w.0, w.1, w.2, w.3) ]
 
 pub nth_any : {A : Type 0} (p : A → Bool) (l : List A) (j : ℕ) (x : A) → nth l j ≡ some x → T (p x) → T (any p l)

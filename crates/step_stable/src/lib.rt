@@ -1,4 +1,6 @@
 // Whether a goal is stable: its own place, the places inside it by their shape, its and-boxes, then its solved guards are asked for unrest.
+#![tactic(auto)]
+
 ghost use Rattle.std.specs.Prelude.{◌<◌, ◌≤◌, length};
 ghost use Rattle.mem_words.specs.Words.{words};
 ghost use Rattle.rule_solve.specs.Idle.{Idle};

@@ -1,4 +1,6 @@
 // A step on a store that holds a state: what it is refused with, or 0 and the store with the next configuration.
+#![tactic(auto)]
+
 ghost use Rattle.std.specs.Prelude.{◌≡◌, ◌+◌, ◌*◌, ◌<◌, ◌≤◌, length};
 ghost use Rattle.mem_words.specs.Words.{words};
 ghost use Rattle.mem_parts.specs.Parts.{cut, Outside};
@@ -115,7 +117,7 @@ fn finger_in(b: &[u8], n: usize, near: Finger, r: usize, i: usize, p: Place) -> 
 }
 
 // What a step answers, and where it is 0 an upper bound of the parts of what it left and a finger in it.
-#[derive(Drop)]
+#[derive(Clone, Copy)]
 pub struct Stepped {
     pub answer: usize,
     pub parts: usize,

@@ -1,4 +1,6 @@
 // One word of a walk over the and-boxes of a goal: a box is entered and its store told, or it is left.
+#![tactic(auto)]
+
 ghost use Rattle.std.specs.Prelude.{◌≡◌, true};
 ghost use Rattle.mem_words.specs.Words.{words};
 ghost use Rattle.mem_sorts.specs.declared.Kind.TheVariants as kinds;
@@ -12,7 +14,7 @@ use mem_words::Word;
 use rule_tells::Around;
 
 // What a word is to the walk.
-#[derive(Drop)]
+#[derive(Clone, Copy)]
 enum Shape {
     Box,
     Opens,
@@ -22,7 +24,7 @@ enum Shape {
 
 // How the walk goes on behind a word: how many brackets are open inside the innermost and-box, how many and-boxes are open, and the
 // mark, which is the used words of the log, the trail and the applications; or an and-box has no solution with its environment.
-#[derive(Drop)]
+#[derive(Clone, Copy)]
 pub enum Next {
     On(usize, usize, usize, usize, usize),
     Fails,

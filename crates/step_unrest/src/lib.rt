@@ -1,5 +1,7 @@
 // What keeps a goal from being stable, at one place at or inside it that is no and-box: a determinate rule that rewrites the goal or
 // something inside it.
+#![tactic(auto)]
+
 ghost use Rattle.std.specs.Prelude.{◌≡◌, ◌<◌, ◌≤◌, length};
 ghost use Rattle.mem_words.specs.Words.{words};
 ghost use Rattle.rule_solve.specs.Idle.{Idle};

@@ -1,4 +1,6 @@
 // Whether a rule asks of a solved guard if it is quiet.
+#![tactic(auto)]
+
 ghost use Rattle.std.specs.Prelude.{◌≡◌, true, ◌+◌, ◌<◌, ◌≤◌, length};
 ghost use Rattle.mem_words.specs.Words.{words};
 ghost use Rattle.rule_words.specs.Scans.{around};

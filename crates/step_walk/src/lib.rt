@@ -1,5 +1,7 @@
 // The and-boxes of a goal tested in one walk over its words: their stores are told and taken back as the boxes are entered and left.
 // Before and afterwards nothing is told and no variable is marked; where an and-box has no solution all cells are made zero.
+#![tactic(auto)]
+
 ghost use Rattle.std.specs.Prelude.{[]};
 ghost use Rattle.mem_words.specs.Words.{words};
 ghost use Rattle.solve_quiet.specs.Solver.{Marking};

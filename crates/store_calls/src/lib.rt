@@ -1,1 +1,2 @@
 // No code: what calls on a store's bytes hand back and leave, and laws.
+#![tactic(auto)]

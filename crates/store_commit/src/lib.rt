@@ -1,4 +1,6 @@
 // A new configuration written into a store: all else of it stays. Whether it is within the limits is found out before.
+#![tactic(auto)]
+
 ghost use Rattle.std.specs.Prelude.{◌≡◌, [], ◌∷◌, ◌*◌, ◌<◌, ◌≤◌, length, take};
 ghost use Rattle.akl.specs.Limits.{most_parts};
 ghost use Rattle.mem_words.specs.Words.{words};
@@ -60,7 +62,7 @@ fn counted(out: &[u8], n: usize, most: usize) -> usize
 }
 
 // What is answered, and where it is 0 an upper bound of the parts that were written.
-#[derive(Drop)]
+#[derive(Clone, Copy)]
 pub struct Settlement {
     pub answer: usize,
     pub parts: usize,
@@ -102,6 +104,6 @@ pub fn settle(
     commit(b, out, n, next, old);
     Settlement {
         answer: 0,
-        parts: p,
+        parts: p, // the parts counted
     }
 }

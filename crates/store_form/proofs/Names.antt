@@ -37,6 +37,7 @@ get_or_In (x ∷ l) zero h = inl refl
 get_or_In (x ∷ l) (suc j) h = inr (get_or_In l j (omega arith))
 
 In-getD : (x : ℕ) (l : List ℕ) → In x l → (j : ℕ) × (j < length l) × (get_or l j 0 ≡ x)
+In-getD x [] i = elim i [ ]
 In-getD x (y ∷ l) (inl e) = (0, omega arith, sym e)
 In-getD x (y ∷ l) (inr i) = let r = In-getD x l i in (suc r.0, omega (arith, r.1), r.2)
 

@@ -1,1 +1,2 @@
 // No code: what the bytes of a store hold, and laws.
+#![tactic(auto)]

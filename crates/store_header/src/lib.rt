@@ -1,4 +1,6 @@
 // The header of a store as bytes.
+#![tactic(auto)]
+
 ghost use Rattle.std.specs.Prelude.{◌≡◌, [], ◌∷◌};
 ghost use Rattle.store_form.specs.Sizes.{form_number};
 ghost use Rattle.store_form.specs.Form.{numbers_bytes};

@@ -1,1 +1,2 @@
 // No code: what a store holds, said by texts.
+#![tactic(auto)]

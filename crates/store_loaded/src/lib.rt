@@ -1,1 +1,2 @@
 // No code: what the reader of texts leaves makes the state at the start.
+#![tactic(auto)]

@@ -1,4 +1,6 @@
 // The parts of a configuration, or of a statement, counted from its words.
+#![tactic(auto)]
+
 ghost use Rattle.std.specs.Prelude.{◌≡◌, ◌+◌, ◌*◌, ◌≤◌, length};
 ghost use Rattle.mem_words.specs.Words.{words, word, place_word, inner_word};
 ghost use Rattle.mem_tallies.specs.Tallies.{if_first};
@@ -12,7 +14,7 @@ use mem_words::Word;
 
 // What a word stands among: locals, where each variable is a part; behind the first word of a hiding or clause, where a number is
 // that of its hidden variables; or others.
-#[derive(Drop)]
+#[derive(Clone, Copy)]
 pub enum Among {
     Others,
     Variables,
@@ -132,7 +134,7 @@ fn behind_word(m: Among, w: Word) -> Among
 }
 
 // What was counted in a run of words: how many parts, and what the word behind the run stands among.
-#[derive(Drop)]
+#[derive(Clone, Copy)]
 pub struct Count {
     pub among: Among,
     pub parts: usize,

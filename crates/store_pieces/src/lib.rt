@@ -1,1 +1,2 @@
 // No code: what stands in the bytes of a store.
+#![tactic(auto)]

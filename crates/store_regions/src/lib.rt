@@ -1,4 +1,6 @@
 // A region of a store written.
+#![tactic(auto)]
+
 ghost use Rattle.std.specs.Prelude.{take};
 ghost use Rattle.store_regions.specs.Regions.{CanRegion, Regioned};
 

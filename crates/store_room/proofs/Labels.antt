@@ -35,7 +35,7 @@ module _ (limit : ℕ) (s : State) (F : Fits limit s) where
       sym (labels_agree (named (table s)) (suc (length s.cells)) (number_in (table s) f) b.1) ∙ b.0
 
   pub config_small : AllSmall (config_words s)
-  config_small = small_all (config_words s) F.words_Small
+  config_small = small_all (config_words s) F.words_small
 
   pub labels_spell : SpeltNode (number_in (table s)) (lab_of s) s.config.root
   unfolding config_words

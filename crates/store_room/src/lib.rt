@@ -1,1 +1,2 @@
 // No code: laws on the room that the stores of a well-formed configuration need.
+#![tactic(auto)]

@@ -1,1 +1,2 @@
 // No code: the state at the start of a query.
+#![tactic(auto)]

@@ -118,4 +118,4 @@ module _ (limit : ℕ) (s : State) (F : Fits limit s) where
   -- and those of its configuration.
   pub config_in_table : NamedNode (InTable (table s)) s.config.root
   unfolding config_words
-  config_in_table = (node_named (number_in (table s)) s.config.root [] (small_all (config_words s) F.words_Small)).0
+  config_in_table = (node_named (number_in (table s)) s.config.root [] (small_all (config_words s) F.words_small)).0

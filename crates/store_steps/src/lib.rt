@@ -1,1 +1,2 @@
 // No code: the state after a step, and laws.
+#![tactic(auto)]

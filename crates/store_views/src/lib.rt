@@ -1,4 +1,6 @@
 // What a store's header says: where the program begins, how many words it and the configuration have, and the next fresh number.
+#![tactic(auto)]
+
 ghost use Rattle.std.specs.Prelude.{◌≡◌, ◌+◌, ◌*◌, ◌≤◌, ◌<◌, length};
 ghost use Rattle.check_held.specs.Checks.{nodes_in, rules_in, words_in, next_in};
 

@@ -1,1 +1,2 @@
 // No code: the words of configurations, and laws.
+#![tactic(auto)]

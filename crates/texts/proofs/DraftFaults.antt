@@ -59,6 +59,7 @@ heads_of P = map (λ (d : Def). (d.name, d.arity)) P
 
 known_back : (P : Program) (p : Name) (n : ℕ) → T (is_some (defined P p n)) → T (any (λ (d : Name × ℕ). same d.0 p && eqb d.1 n) (heads_of P))
 unfolding any defined
+known_back [] p n t = elim t [ ]
 known_back (d ∷ P) p n t = go (same d.name p && eqb d.arity n) t (λ u. known_back P p n u)
   where
     go : (b : Bool) → T (is_some (if b (some d.body) (defined P p n))) → (T (is_some (defined P p n)) → T (any (λ (h : Name × ℕ). same h.0 p && eqb h.1 n) (heads_of P))) → T (b || any (λ (h : Name × ℕ). same h.0 p && eqb h.1 n) (heads_of P))

@@ -130,6 +130,7 @@ level_at (suc m) n zero l b = here (last (level_name (n + 0)) (level_names (suc 
     out u = let h = level_among m (suc n) (n + 0) (omega arith) (omega arith) u in omega arith
 
     here : (o : Option ℕ) → o ≡ none → (b : Bool) → T b → ◌≡◌ {A = Option ℕ} (elim o as (λ z. Option ℕ) [ none ↦ if b (some 0) none | some j ↦ some (suc j) ]) (some 0)
+    here o e false t = elim t [ ]
     here o e true t = ap (λ (p : Option ℕ). elim p as (λ z. Option ℕ) [ none ↦ some 0 | some j ↦ some (suc j) ]) e
 level_at (suc m) n (suc i) l b = there (last (level_name (n + suc i)) (level_names (suc n) m)) (subst (λ k. last (level_name k) (level_names (suc n) m) ≡ some i) next (level_at m (suc n) i (omega arith) (omega arith)))
   where
@@ -176,6 +177,7 @@ number_at (suc m) n zero l b = here (same (number_name (n + 0)) (number_name n))
     same_place = omega arith
 
     here : (b : Bool) → T b → if b (some 0) (first (number_name (n + 0)) (map number_name (range (suc n) m)) >>= λ j. some (suc j)) ≡ some 0
+    here false t = elim t [ ]
     here true t = refl
 number_at (suc m) n (suc i) l b = there (same (number_name (n + suc i)) (number_name n)) other (subst (λ k. first (number_name k) (map number_name (range (suc n) m)) ≡ some i) next (number_at m (suc n) i (omega arith) (omega arith)))
   where

@@ -85,6 +85,7 @@ module _ (P : Program) (K : ℕ) (room : K ≤ most_names) where
         draft_choice_reads cs op n k.0 k.1 w
 
     draft_choice_reads : (cs : Clauses) (op : Op) (n : ℕ) → T (some_clause cs) → T (clauses_fit cs P (below K) n) → clauses_widest cs n ≤ most_names → bracket_of (draft_choice cs op n) qs (level_names 0 n) ≡ choice op cs
+    draft_choice_reads no_more op n u f w = elim u [ ]
     draft_choice_reads (clause m g b cs) op n u f w =
         let k2 = (and_T (statement_fits g P (below K) (n + m) && statement_fits b P (below K) (n + m)) (clauses_fit cs P (below K) n)).0 f in
         let k1 = (and_T (statement_fits g P (below K) (n + m)) (statement_fits b P (below K) (n + m))).0 k2.0 in

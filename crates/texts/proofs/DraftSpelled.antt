@@ -25,6 +25,7 @@ Predicates P = (p : Name) (n : ℕ) → T (is_some (defined P p n)) → T (spell
 
 of_definitions : (P ds : Program) → T (all (definition_passes P) ds) → Predicates ds
 unfolding all defined definition_passes
+of_definitions P [] h p n t = elim t [ ]
 of_definitions P (d ∷ ds) h p n t = go (same d.name p && eqb d.arity n) refl t (λ u. of_definitions P ds k.1 p n u)
   where
     k : T (definition_passes P d) × T (all (definition_passes P) ds)

@@ -41,6 +41,7 @@ among_mid x (y ∷ a) b = (or_T (same x y) (any (same x) (a ++ (x ∷ b)))).1 (i
 
 repeats_mid : (x : Name) (a b : List Name) → T (among x a) → T (repeats (a ++ (x ∷ b)))
 unfolding among any repeats
+repeats_mid x [] b t = elim t [ ]
 repeats_mid x (y ∷ a) b t = (or_T (any (same y) (a ++ (x ∷ b))) (repeats (a ++ (x ∷ b)))).1 (go ((or_T (same x y) (any (same x) a)).0 t) (λ u. repeats_mid x a b u))
   where
     go : T (same x y) ⊎ T (any (same x) a) → (T (any (same x) a) → T (repeats (a ++ (x ∷ b)))) → T (any (same y) (a ++ (x ∷ b))) ⊎ T (repeats (a ++ (x ∷ b)))
@@ -57,6 +58,7 @@ naming_once (x ∷ xs) seen n = ap (λ l. once l (statement_free (naming xs) [])
     new false m = refl
 
     old : (b : Bool) → T b → if b (seen ++ (x ∷ [])) ((seen ++ (x ∷ [])) ++ (x ∷ [])) ≡ seen ++ (x ∷ [])
+    old false t = elim t [ ]
     old true t = refl
 
     once_seen : if (any (same x) seen) seen (seen ++ (x ∷ [])) ≡ seen ++ (x ∷ [])

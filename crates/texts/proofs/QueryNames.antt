@@ -36,6 +36,7 @@ among_snoc x y (z ∷ l) t = elim ((or_T (same x z) (any (same x) (l ++ (y ∷ [
 
 snoc_left : (x y : Name) (l : List Name) → T (among x l) → T (among x (l ++ (y ∷ [])))
 unfolding among any
+snoc_left x y [] t = elim t [ ]
 snoc_left x y (z ∷ l) t = (or_T (same x z) (any (same x) (l ++ (y ∷ [])))).1 (elim ((or_T (same x z) (any (same x) l)).0 t) [ inl h ↦ inl h | inr h ↦ inr (snoc_left x y l h) ])
 
 snoc_last : (x : Name) (l : List Name) → T (among x (l ++ (x ∷ [])))

@@ -59,9 +59,11 @@ last_size x (y ∷ l) i e = go (last x l) refl e (λ j q. last_size x l j q)
 
 pub last_among : (x : Name) (l : List Name) → T (among x l) → (i : ℕ) × (last x l ≡ some i)
 unfolding last among any
+last_among x [] t = elim t [ ]
 last_among x (y ∷ l) t = go (last x l) refl ((or_T (same x y) (any (same x) l)).0 t) (λ u. last_among x l u)
   where
     here : (b : Bool) → T b → (i : ℕ) × (if b (some 0) none ≡ some i)
+    here false u = elim u [ ]
     here true u = (0, refl)
 
     go : (o : Option ℕ) → last x l ≡ o → T (same x y) ⊎ T (any (same x) l) → (T (any (same x) l) → (i : ℕ) × (last x l ≡ some i)) → (i : ℕ) × (elim o as (λ z. Option ℕ) [ none ↦ if (same x y) (some 0) none | some j ↦ some (suc j) ] ≡ some i)
@@ -74,6 +76,7 @@ last_among x (y ∷ l) t = go (last x l) refl ((or_T (same x y) (any (same x) l)
 
 pub first_size : (x : Name) (l : List Name) → T (among x l) → (i : ℕ) × (first x l ≡ some i) × (i < size l)
 unfolding first among any size
+first_size x [] t = elim t [ ]
 first_size x (y ∷ l) t = go (same x y) ((or_T (same x y) (any (same x) l)).0 t) (λ u. first_size x l u)
   where
     go : (b : Bool) → T b ⊎ T (any (same x) l) → (T (any (same x) l) → (i : ℕ) × (first x l ≡ some i) × (i < size l)) → (i : ℕ) × (if b (some 0) (first x l >>= λ j. some (suc j)) ≡ some i) × (i < suc (size l))

@@ -140,6 +140,12 @@ name_label [] h = refl
 name_label (x ∷ w) h = go (class_of x) ((and_T (begins is_small (x ∷ w)) (all (λ y. word_class (class_of y)) (x ∷ w))).0 ((and_T (begins is_small (x ∷ w) && all (λ y. word_class (class_of y)) (x ∷ w)) (leb (size (x ∷ w)) name_bytes)).0 h).0).0
   where
     go : (c : Class) → T (is_small c) → if (digit_class c) (digits (x ∷ w)) (name (x ∷ w)) ≡ name (x ∷ w)
+    go capital t = elim t [ ]
+    go digit t = elim t [ ]
+    go underscore t = elim t [ ]
+    go blank t = elim t [ ]
+    go mark t = elim t [ ]
+    go other t = elim t [ ]
     go small t = refl
 
 digits_label : (w : Name) → T (spelled_digits w) → label_token w ≡ digits w
@@ -148,6 +154,7 @@ digits_label [] h = absurd h
 digits_label (x ∷ w) h = go (digit_class (class_of x)) ((and_T (begins digit_class (x ∷ w)) (all (λ y. digit_class (class_of y)) (x ∷ w))).0 ((and_T (begins digit_class (x ∷ w) && all (λ y. digit_class (class_of y)) (x ∷ w)) (leb (size (x ∷ w)) name_bytes)).0 h).0).0
   where
     go : (b : Bool) → T b → if b (digits (x ∷ w)) (name (x ∷ w)) ≡ digits (x ∷ w)
+    go false t = elim t [ ]
     go true t = refl
 
 label_prints : (ts : List Token) → SpelledTokens ts → Prints (IsLabel ts) (a_label ts)

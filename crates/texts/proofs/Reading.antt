@@ -58,6 +58,7 @@ checked_inv {A} faults a b e = go (least faults) refl e
 
 known : (P : Program) (p : Name) (n : ℕ) → T (any (λ (d : Name × ℕ). same d.0 p && eqb d.1 n) (map (λ (d : Def). (d.name, d.arity)) P)) → T (is_some (defined P p n))
 unfolding any defined
+known [] p n t = elim t [ ]
 known (d ∷ P) p n t = go (same d.name p && eqb d.arity n) t (λ u. known P p n u)
   where
     go : (b : Bool) → T (b || any (λ (h : Name × ℕ). same h.0 p && eqb h.1 n) (map (λ (h : Def). (h.name, h.arity)) P)) → (T (any (λ (h : Name × ℕ). same h.0 p && eqb h.1 n) (map (λ (h : Def). (h.name, h.arity)) P)) → T (is_some (defined P p n))) → T (is_some (if b (some d.body) (defined P p n)))

@@ -8,7 +8,7 @@ use Rattle.constraint.specs.Constraint.{Con, ctrue, cfail, ceq, capp}
 use Rattle.constraint.proofs.Lists.{and_T, or_T, not_T}
 use Rattle.akl.specs.Base.{Name, bytes, bytes_from, size, same, all, if}
 use Rattle.akl.specs.Limits.{name_bytes}
-use Rattle.akl.specs.Token.{Class, small, digit, class_of, word_class, digit_class, Token, name, digits, sign, close_bracket, comma, full_stop, colon, defines, operator}
+use Rattle.akl.specs.Token.{Class, small, digit, class_of, word_class, digit_class, Token, name, digits, sign, close_bracket, comma, full_stop, colon, defines, operator, capital, underscore, blank, mark, other}
 use Rattle.akl.specs.Grammar.{Statement, single, joined, Simple, constraint, program, bracket, Bracket, plain, hiding, choosing, Clause, written, Others, end, and_also, Definition}
 use Rattle.akl.specs.WellFormed.{is_small, begins, spelled_name, spelled_digits, spelled_predicate}
 use Rattle.texts.specs.Spelled.{SpelledToken, SpelledTokens, Variables, SpelledCon, SpelledStatement, SpelledSimple, SpelledBracket, SpelledClause, SpelledOthers, SpelledDefinitions}
@@ -70,6 +70,11 @@ hidden_spelled [] ts h k = k
 hidden_spelled (x ∷ xs) ts h k = vars_spelled x xs (sign colon ∷ ts) h (tt, k)
 
 small_no_digit : (c : Class) → T (is_small c) → T (digit_class c) → ⊥
+small_no_digit capital a b = elim a [ ]
+small_no_digit underscore a b = elim a [ ]
+small_no_digit blank a b = elim a [ ]
+small_no_digit mark a b = elim a [ ]
+small_no_digit other a b = elim a [ ]
 small_no_digit small a b = b
 small_no_digit digit a b = a
 

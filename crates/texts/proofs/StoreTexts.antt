@@ -54,6 +54,7 @@ con_numbers (ceq x y) = refl
 con_numbers (capp x f ys) = ap (λ (l : List ℕ). x ∷ l) (numbers_map ys)
 
 con_fits : (c : Con ℕ) → T (stored_fits c) → T (constraint_fits any_number 0 (map_con number c)) × (stored (map_con number c) ≡ c ∷ [])
+con_fits ctrue h = elim h [ ]
 con_fits cfail h = (tt, refl)
 con_fits (ceq x y) h = (tt, refl)
 con_fits (capp x f ys) h =

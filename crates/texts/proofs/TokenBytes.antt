@@ -10,7 +10,7 @@ use Rattle.constraint.proofs.Lists.{and_T}
 use Rattle.akl.specs.Base.{Name, size, all, if, ◌>>=◌}
 use Rattle.akl.specs.Limits.{name_bytes}
 use Rattle.akl.specs.Syntax.{wait, cond, commit}
-use Rattle.akl.specs.Token.{Class, small, capital, digit, blank, class_of, word_class, digit_class, Mark, open_bracket, close_bracket, comma, full_stop, colon, defines, equals, semicolon, operator, Token, name, digits, variable, sign, span, fits, passed, token, bad, word, lexed, tokens_in, tokens}
+use Rattle.akl.specs.Token.{Class, small, capital, digit, blank, class_of, word_class, digit_class, Mark, open_bracket, close_bracket, comma, full_stop, colon, defines, equals, semicolon, operator, Token, name, digits, variable, sign, span, fits, passed, token, bad, word, lexed, tokens_in, tokens, underscore, mark, other}
 use Rattle.akl.specs.WellFormed.{is_small, is_capital, begins, spelled_name, spelled_digits, spelled_variable}
 use Rattle.texts.specs.Spelled.{SpelledToken, SpelledTokens}
 use Rattle.texts.specs.Draft.{mark_bytes, token_bytes, text_of}
@@ -26,21 +26,41 @@ span_word p b (x ∷ w) r h = go (p (class_of x)) k.0 (span p (w ++ 32 ∷ r)) (
     k = (and_T (p (class_of x)) (all (λ y. p (class_of y)) w)).0 h
 
     go : (c : Bool) → T c → (s : List ℕ × List ℕ) → s ≡ (w, 32 ∷ r) → ◌≡◌ {A = List ℕ × List ℕ} (elim c as (λ z. List ℕ × List ℕ) [ true ↦ (x ∷ s.0, s.1) | false ↦ ([], x ∷ (w ++ 32 ∷ r)) ]) (x ∷ w, 32 ∷ r)
+    go false t s e = elim t [ ]
     go true t s e = ap (λ (q : List ℕ × List ℕ). (x ∷ q.0, q.1)) e
 
 word_token : (make : Name → Token) (w r : List ℕ) → T (fits w) → word make (w, r) ≡ token (make w) r
 word_token make w r h = go (fits w) h
   where
     go : (b : Bool) → T b → if b (token (make w) r) bad ≡ token (make w) r
+    go false t = elim t [ ]
     go true t = refl
 
 the_small : (c : Class) → T (is_small c) → c ≡ small
+the_small capital t = elim t [ ]
+the_small digit t = elim t [ ]
+the_small Rattle.akl.specs.Token.underscore t = elim t [ ]
+the_small blank t = elim t [ ]
+the_small Rattle.akl.specs.Token.mark t = elim t [ ]
+the_small Rattle.akl.specs.Token.other t = elim t [ ]
 the_small small t = refl
 
 the_capital : (c : Class) → T (is_capital c) → c ≡ capital
+the_capital small t = elim t [ ]
+the_capital digit t = elim t [ ]
+the_capital Rattle.akl.specs.Token.underscore t = elim t [ ]
+the_capital blank t = elim t [ ]
+the_capital Rattle.akl.specs.Token.mark t = elim t [ ]
+the_capital Rattle.akl.specs.Token.other t = elim t [ ]
 the_capital capital t = refl
 
 the_digit : (c : Class) → T (digit_class c) → c ≡ digit
+the_digit small t = elim t [ ]
+the_digit capital t = elim t [ ]
+the_digit underscore t = elim t [ ]
+the_digit blank t = elim t [ ]
+the_digit mark t = elim t [ ]
+the_digit other t = elim t [ ]
 the_digit digit t = refl
 
 -- One turn takes the token and leaves the space.

@@ -31,6 +31,7 @@ unfolding span
 span_begins p r x l h k = go (p (class_of x)) h
   where
     go : (b : Bool) → T b → T (begins r (elim b as (λ c. List ℕ × List ℕ) [ true ↦ (x ∷ (span p l).0, (span p l).1) | false ↦ ([], x ∷ l) ]).0)
+    go false t = elim t [ ]
     go true t = k
 
 abbrev SpelledLexed : Lexed → Type 0

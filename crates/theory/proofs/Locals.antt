@@ -64,6 +64,7 @@ module _ (q : ℕ) (vs us ws : List ℕ) (d : Disjoint us ws) where
 
 pub range_In : (x N m : ℕ) → In x (range N m) → (N ≤ x) × (x < N + m)
 unfolding range
+range_In x N zero i = elim i [ ]
 range_In x N (suc m) (inl e) = (rw e (omega arith), rw e (omega arith))
 range_In x N (suc m) (inr i) = let h = range_In x (suc N) m i in (omega arith, omega arith)
 

@@ -4,7 +4,7 @@ use mathlib.Core.Path.{◌≡◌, refl, ap, sym, ◌∙◌, subst}
 use mathlib.Core.Logic.{◌↔◌, inl, inr}
 use mathlib.Core.List.{List, [], ◌∷◌, ◌++◌, map}
 use mathlib.Core.Bool.{Bool, false, ◌&&◌, ◌||◌}
-use mathlib.Core.Option.{Option, some}
+use mathlib.Core.Option.{Option, some, none}
 use Prim.Native.Nat.{ℕ, zero, suc, ◌+◌, ◌<◌}
 use native.Mathlib.Omega.{arith}
 use lib.ListN.{get_or}
@@ -13,7 +13,7 @@ use Rattle.constraint.specs.Tree.{Tree, node, fcons}
 use Rattle.constraint.specs.Constraint.{Con, ctrue, cfail, ceq, capp, Asg, trees, Sat}
 use Rattle.constraint.proofs.Lists.{and_T}
 use Rattle.akl.specs.Base.{is_some, Name, size, all}
-use Rattle.akl.specs.Syntax.{Var, number, level, Stmt, atom, call, comp, hide, choice, Clauses, clause, Program, defined}
+use Rattle.akl.specs.Syntax.{Var, number, level, Stmt, atom, call, comp, hide, choice, Clauses, clause, Program, defined, no_more}
 use Rattle.akl.specs.Configuration.{Kind, Node, or, and, stmt, choice_box, guard, Nodes, nil, cons, Config}
 use Rattle.akl.specs.Reader.{Query}
 use Rattle.akl.specs.WellFormed.{variable_fits, few, constraint_fits, statement_fits, clauses_fit, some_clause, spelled_name, spelled_digits, statement_passes, program_passes, stored_fits, statements_pass, statements_pass_all, depth}
@@ -105,6 +105,7 @@ module _ (P : Program) (free : ℕ → Bool) (Q Q' : Model) (more : (p : Name) (
     holds_names (choice op cs) ts f h = some_names cs ts ((and_T (some_clause cs) (clauses_fit cs P free (size ts))).0 f).1 h
 
     some_names : (cs : Clauses) (ts : List Tree) → T (clauses_fit cs P free (size ts)) → SomeClause cs Q ρ ts → NamedSome cs Q' (λ x. in_names (ρ x)) (map in_names ts)
+    some_names no_more ts f i = elim i [ ]
     some_names (clause m g b cs) ts f (inl h) =
         let k2 = (and_T (statement_fits g P free (size ts + m) && statement_fits b P free (size ts + m)) (clauses_fit cs P free (size ts))).0 f in
         let k1 = (and_T (statement_fits g P free (size ts + m)) (statement_fits b P free (size ts + m))).0 k2.0 in
@@ -122,6 +123,7 @@ module _ (Q Q' : Model) (less : (p : Name) (ts : List Tree) → Q' p ts → Q p 
     holds_any (choice op cs) ts h = some_any cs ts h
 
     some_any : (cs : Clauses) (ts : List Tree) → NamedSome cs Q' ρ ts → SomeClause cs Q ρ ts
+    some_any no_more ts i = elim i [ ]
     some_any (clause m g b cs) ts (inl h) = inl (h.0, h.2, holds_any g (ts ++ h.0) h.3, holds_any b (ts ++ h.0) h.4)
     some_any (clause m g b cs) ts (inr h) = inr (some_any cs ts h)
 
@@ -142,6 +144,7 @@ module _ (P : Program) (passes : T (program_passes P)) where
   unfolded_names (suc n) p ts h = subst (λ k. NamedBodyHolds (NamedUnfolded P n) (map in_names ts) (defined P p k)) (sym (size_map in_names ts)) (go (λ r us k. unfolded_names n r us k) (defined P p (size ts)) refl h)
     where
       go : ((r : Name) (us : List Tree) → Unfolded P n r us → NamedUnfolded P n r (map in_names us)) → (o : Option Stmt) → defined P p (size ts) ≡ o → BodyHolds (Unfolded P n) ts o → NamedBodyHolds (NamedUnfolded P n) (map in_names ts) o
+      go ih mathlib.Core.Option.none e k = elim k [ ]
       go ih (some b) e k = subst (λ t. NamedHolds b (NamedUnfolded P n) (λ x. t) (map in_names ts)) leaf_names (holds_names P no_number (Unfolded P n) (NamedUnfolded P n) ih (λ x. leaf) b ts ((passes_iff P no_number (size ts) b).0 (body_passes P passes p (size ts) b e)).0 k)
 
   unfolded_any : (n : ℕ) (p : Name) (ts : List Tree) → NamedUnfolded P n p ts → Unfolded P n p ts
@@ -150,6 +153,7 @@ module _ (P : Program) (passes : T (program_passes P)) where
   unfolded_any (suc n) p ts h = go (λ r us k. unfolded_any n r us k) (defined P p (size ts)) refl h
     where
       go : ((r : Name) (us : List Tree) → NamedUnfolded P n r us → Unfolded P n r us) → (o : Option Stmt) → defined P p (size ts) ≡ o → NamedBodyHolds (NamedUnfolded P n) ts o → BodyHolds (Unfolded P n) ts o
+      go ih none e k = elim k [ ]
       go ih (some b) e k = holds_on (Unfolded P n) (λ x. named_leaf) (λ x. leaf) b ts (λ x i. absurd (body_no_numbers P passes p (size ts) b e x i)) (holds_any (Unfolded P n) (NamedUnfolded P n) ih (λ x. named_leaf) b ts k)
 
   atoms_names : (p : Name) (ts : List Tree) → Atoms P p ts → NamedAtoms P p (map in_names ts)

@@ -105,6 +105,7 @@ pub to_name_same : (f : Label) → Named f → to_name f ≡ f
 to_name_same f h = go (a_name? f) h
   where
     go : (b : Bool) → T b → if b f (97 ∷ []) ≡ f
+    go false t = elim t [ ]
     go true t = refl
 
 con_fixed : (φ : Label → Label) (c : Con ℕ) → ((f : Label) → Named f → φ f ≡ f) → NamedCon c → FixesCon φ c
@@ -224,6 +225,7 @@ module _ (n : ℕ) where
   own_back f = go (kept? f) refl
     where
       short : (b : Bool) → T b → if b f (decoded (without n f)) ≡ f
+      short false t = elim t [ ]
       short true t = refl
 
       long : (b : Bool) → (T b → ⊥) → if b (behind n (coded f)) (decoded (without n (behind n (coded f)))) ≡ f
@@ -241,6 +243,7 @@ module _ (n : ℕ) where
   own_kept f l h = go (kept? f) ((and_T (leb (size f) n) (a_name? f)).1 (le→leb (size f) n l, h))
     where
       go : (b : Bool) → T b → if b f (behind n (coded f)) ≡ f
+      go false t = elim t [ ]
       go true t = refl
 
 -- the length of the longest label
@@ -311,6 +314,7 @@ stored_named [] h = tt
 stored_named (c ∷ σ) h = let k = (and_T (stored_fits c) (all stored_fits σ)).0 h in (go c k.0, stored_named σ k.1)
   where
     go : (d : Con ℕ) → T (stored_fits d) → NamedCon d
+    go ctrue t = elim t [ ]
     go cfail t = tt
     go (ceq x y) t = tt
     go (capp x f ys) t = spelled_is_named f ((and_T (few ys) (spelled_name f || spelled_digits f)).0 t).1

@@ -63,6 +63,7 @@ module _ (vs : List Var) (x : ℕ) where
 
 numbers_map : (ws : List ℕ) (x : ℕ) → In x (list_numbers (map number ws)) → In x ws
 unfolding list_numbers
+numbers_map [] x i = elim i [ ]
 numbers_map (w ∷ ws) x (inl e) = inl e
 numbers_map (w ∷ ws) x (inr i) = inr (numbers_map ws x i)
 
@@ -80,6 +81,7 @@ var_stored (level l) c x e = absurd (no_level l c)
 
 list_stored : (vs : List Var) → ClosedList vs → (x : ℕ) → In x (map number_of vs) → In x (list_numbers vs)
 unfolding all list_numbers
+list_stored [] c x i = elim i [ ]
 list_stored (v ∷ vs) c x (inl e) = (In-append x (variable_numbers v) (list_numbers vs)).1 (inl (var_stored v ((and_T (variable_fits any_number 0 v) (all (variable_fits any_number 0) vs)).0 c).0 x e))
 list_stored (v ∷ vs) c x (inr i) = (In-append x (variable_numbers v) (list_numbers vs)).1 (inr (list_stored vs ((and_T (variable_fits any_number 0 v) (all (variable_fits any_number 0) vs)).0 c).1 x i))
 
@@ -91,6 +93,7 @@ stored_numbers (ceq u v) k x i = go i ((and_T (variable_fits any_number 0 u) (va
   where
     go : In x (number_of u ∷ number_of v ∷ []) → ClosedVar u × ClosedVar v → In x (variable_numbers u ++ variable_numbers v)
     go (inl e) h = (In-append x (variable_numbers u) (variable_numbers v)).1 (inl (var_stored u h.0 x e))
+    go (inr (inr i)) h = elim i [ ]
     go (inr (inl e)) h = (In-append x (variable_numbers u) (variable_numbers v)).1 (inr (var_stored v h.1 x e))
 stored_numbers (capp u f ys) k x i = go i c1
   where

@@ -89,6 +89,7 @@ module _ (P : Program) (free : ℕ → Bool) (ws : List ℕ) where
         (and_T (statement_fits (opened g o) P any_number (n + m) && statement_fits (opened b o) P any_number (n + m)) (clauses_fit (opened_clauses cs o) P any_number n)).1 ((and_T (statement_fits (opened g o) P any_number (n + m)) (statement_fits (opened b o) P any_number (n + m))).1 (opened_fits g (n + m) (subst (λ j. T (statement_fits g P free j)) (omega arith) k1.0), opened_fits b (n + m) (subst (λ j. T (statement_fits b P free j)) (omega arith) k1.1)), opened_clauses_fit cs n k2.1)
 
     opened_some : (cs : Clauses) → T (some_clause cs) → T (some_clause (opened_clauses cs (map number ws)))
+    opened_some no_more h = elim h [ ]
     opened_some (clause m g b cs) h = tt
 
 -- ---------------------------------------------------------------------------------------------

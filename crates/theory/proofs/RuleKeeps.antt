@@ -139,6 +139,7 @@ module _ (N : ℕ) (xs : List ℕ) where
 
   goals_new : (cs : Clauses) (M : ℕ) → N ≤ M → (x : ℕ) → In x (locals_all (guarded_goals cs M)) → N ≤ x
   unfolding guarded_goals locals
+  goals_new no_more M a x i = elim i [ ]
   goals_new (clause n g c cs) M a x i = elim ((In-append x (range M n ++ []) (locals_all (guarded_goals cs (M + n)))).0 i) [ inl j ↦ elim ((In-append x (range M n) []).0 j) [ inl m ↦ omega (arith, (range_In x M n m).0) | inr m ↦ absurd m ] | inr j ↦ goals_new cs (M + n) (omega arith) x j ]
 
   pub keep_5 : (op : Op) (cs : Clauses) → Keeps N (N + hidden_in cs) xs (stmt (choice op cs)) (choice_box op (guarded_goals cs N))

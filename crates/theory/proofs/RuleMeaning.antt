@@ -104,6 +104,7 @@ module _ (Q : Model) (q : ℕ) (xs : List ℕ) (θ : Store) where
         let ρ' = x.0 in
         let h = (all_append Q q ρ' l (cons (choice_box op (one g)) r)).0 x.3 in
         (ρ', x.1, x.2, (all_append Q q ρ' l (cons (choice_box op (cons g gs)) r)).1 (h.0, ((elim h.1.0.0 [ inl e ↦ inl e | inr e ↦ absurd e ], tt), h.1.1)), x.4)
+    split_from M M' w w' u u' a ρ s b f f' (inr (inr i)) = elim i [ ]
     split_from M M' w w' u u' a ρ s b f f' (inr (inl x)) =
         let ρ' = x.0 in
         let h = (all_append Q q ρ' l (cons (choice_box op gs) r)).0 x.3 in

@@ -159,6 +159,7 @@ module _ (P : Program) where
     enough (choice op cs) ρ ts h = enough_some cs ρ ts h
 
     enough_some : (cs : Clauses) (ρ : Asg) (ts : List Tree) → SomeClause cs (Atoms P) ρ ts → (n : ℕ) × SomeClause cs (Unfolded P n) ρ ts
+    enough_some no_more ρ ts i = elim i [ ]
     enough_some (clause m g b cs) ρ ts (inl h) =
         let x = enough g ρ (ts ++ h.0) h.2 in
         let y = enough b ρ (ts ++ h.0) h.3 in
@@ -171,7 +172,9 @@ module _ (P : Program) where
   atom_unfolds p ts = (λ h. to_it h.0 h.1, λ h. from_it (defined P p (size ts)) refl h)
     where
       to_it : (n : ℕ) → Unfolded P n p ts → BodyHolds (Atoms P) ts (defined P p (size ts))
+      to_it zero h = elim h [ ]
       to_it (suc n) h = body_more (Unfolded P n) (Atoms P) (λ r us k. (n, k)) ts (defined P p (size ts)) h
 
       from_it : (o : Option Stmt) → defined P p (size ts) ≡ o → BodyHolds (Atoms P) ts o → Atoms P p ts
+      from_it none e h = elim h [ ]
       from_it (some b) e h = let x = enough b (λ y. leaf) ts h in (suc x.0, subst (BodyHolds (Unfolded P x.0) ts) (sym e) x.1)

@@ -1,4 +1,6 @@
 // The judgement of `work_judge` as a function that C and Rust can call, for bench/solver.
+#![tactic(auto)]
+
 ghost use Rattle.std.specs.Prelude.{◌≡◌};
 ghost use Rattle.mem_numbers.specs.Numbers.{shorts};
 ghost use Rattle.mem_words.specs.Words.{words};

@@ -1,4 +1,6 @@
 // Cells and their trail in one working slice: the contracts are stated by `solve_cells`, at the tables of the slice.
+#![tactic(auto)]
+
 ghost use Rattle.std.specs.Prelude.{◌≤◌, length};
 ghost use Rattle.mem_numbers.specs.Numbers.{triples};
 ghost use Rattle.mem_parts.specs.Parts.{cut};

@@ -1,4 +1,6 @@
 // Classes of variables in one working slice: the contracts are stated by `solve_classes`, at the tables of the slice.
+#![tactic(auto)]
+
 ghost use Rattle.std.specs.Prelude.{◌≤◌, length};
 ghost use Rattle.mem_numbers.specs.Numbers.{triples};
 ghost use Rattle.solve_classes.specs.Means.{Order, CanHang, CanJoin};

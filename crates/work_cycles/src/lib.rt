@@ -1,5 +1,7 @@
 // Whether the bindings of a table of classes run in a cycle: a search in depth over the applications, with marks and a stack in
 // the working slice. The contracts are stated by `solve_explores`, at the tables of the slice.
+#![tactic(auto)]
+
 ghost use Rattle.std.specs.Prelude.{◌≤◌, length};
 ghost use Rattle.solve_explores.specs.Search.{CanDrain, Cleared, CanTest, Tested};
 ghost use Rattle.work_tables.specs.Tables.{cells_of, pos_of, log_of, marks_of, stack_of, dones_of, Laid, Logged, Searched};

@@ -1,4 +1,6 @@
 // A walk goes one box deeper: its store is pushed, and tested for a cycle since the mark before it.
+#![tactic(auto)]
+
 ghost use Rattle.mem_words.specs.Words.{words};
 ghost use Rattle.work_enter.specs.Enters.{CanEnter, Entered};
 

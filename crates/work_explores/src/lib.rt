@@ -1,5 +1,7 @@
 // The search for a cycle from one application in the working slice, depth first, with a stack. The contracts are stated by
 // `solve_explores`, at the tables of the slice.
+#![tactic(auto)]
+
 ghost use Rattle.std.specs.Prelude.{◌≤◌, length};
 ghost use Rattle.mem_numbers.specs.Numbers.{triples};
 ghost use Rattle.mem_words.specs.Words.{words};

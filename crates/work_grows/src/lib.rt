@@ -1,1 +1,2 @@
 // Laws only: what was told from the log's first words stays told when words are appended.
+#![tactic(auto)]

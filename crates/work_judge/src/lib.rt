@@ -1,4 +1,6 @@
 // Whether one store is quiet for one environment, both ranges of the same words, on the working slice.
+#![tactic(auto)]
+
 ghost use Rattle.mem_numbers.specs.Numbers.{shorts};
 ghost use Rattle.mem_words.specs.Words.{words};
 ghost use Rattle.work_tables.specs.Tables.{Laid};
@@ -8,7 +10,7 @@ use solve_quiet::Calm;
 use solve_tells::Told;
 
 // What a judgement says: words and slice do not fit, there is no room, the store is quiet, it is not.
-#[derive(Drop)]
+#[derive(Clone, Copy)]
 pub enum Judged {
     Unfit,
     NoSpace,

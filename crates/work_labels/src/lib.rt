@@ -1,1 +1,2 @@
 // No code: laws on the labels of what is told.
+#![tactic(auto)]

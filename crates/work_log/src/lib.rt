@@ -1,5 +1,7 @@
 // The solver's own copy of what is told: words of the store are appended to the log of the working slice, and three words that
 // end every constraint begun there.
+#![tactic(auto)]
+
 ghost use Rattle.std.specs.Prelude.{◌≤◌, length};
 ghost use Rattle.mem_words.specs.Words.{words};
 ghost use Rattle.mem_copies.specs.Runs.{CanCopy};

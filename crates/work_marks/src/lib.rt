@@ -1,1 +1,2 @@
 // Laws only: the marks of a walk over nested boxes, with what was told between them.
+#![tactic(auto)]

@@ -1,5 +1,7 @@
 // Two applications are met in the working slice: one label, and as many arguments, joined pair by pair. The contract is stated by
 // `solve_tells`, at the tables of the slice.
+#![tactic(auto)]
+
 ghost use Rattle.solve_tells.specs.Steps.{CanMeet, Meeting};
 ghost use Rattle.work_tables.specs.Tables.{cells_of, vars_of, olds_of, log_of, Laid, Logged, Moved};
 

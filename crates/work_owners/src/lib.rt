@@ -1,5 +1,7 @@
 // Whether the variables that were unbound before a mark, locals aside, are unbound still and each alone in its class, in the
 // working slice. The contracts are stated by `solve_quiet`, at the tables of the slice.
+#![tactic(auto)]
+
 ghost use Rattle.std.specs.Prelude.{List, ℕ, ◌+◌};
 ghost use Rattle.solve_quiet.specs.Owners.{CanLookOne, CanOwn, Looking, CanLookAll};
 ghost use Rattle.work_tables.specs.Tables.{cells_of, vars_of, olds_of, locals_of, Laid, Moved};

@@ -1,5 +1,7 @@
 // The solver's verdicts over the tables of the working slice: whether what was told has a solution, and whether what was told since
 // a mark is quiet for what was told before it. The contracts are stated by `solve_quiet`, at the tables of the slice.
+#![tactic(auto)]
+
 ghost use Rattle.solve_explores.specs.Search.{CanTest};
 ghost use Rattle.solve_quiet.specs.Solver.{Solved, CanCalm, Calmed, Kept};
 ghost use Rattle.work_tables.specs.Tables.{cells_of, vars_of, olds_of, pos_of, log_of, marks_of, stack_of, dones_of, locals_of, Laid, Logged, Searched, Tried};

@@ -1,5 +1,7 @@
 // Constraints told from ranges of the log to the tables of the working slice, and taken back to an earlier mark. The contracts are
 // stated by `solve_tells`, at the tables of the slice.
+#![tactic(auto)]
+
 ghost use Rattle.solve_tells.specs.Tells.{CanTell, Telling, range_of, apps_in, CanBack};
 ghost use Rattle.work_tables.specs.Tables.{cells_of, vars_of, olds_of, pos_of, log_of, Laid, Logged, Noted};
 ghost use Rattle.work_tells.specs.Positions.{Ahead};

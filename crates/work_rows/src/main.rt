@@ -1,7 +1,26 @@
 // Stores against environments: the rows of document 01 on constraints, and the readings that fit the page and not the
 // rule. Writes q for quiet and l for not, a letter for each row: on the working slice.
-use libc::STDOUT_FILENO;
+#![tactic(auto)]
+
+ghost use Rattle.std.specs.Prelude.{◌≡◌, length};
+
 use work_judge::Judged;
+
+const STDOUT: i32 = 1;
+
+// So many zeros. (Of an array whose length is written out the prover counts the elements one by one; of a parameter it counts none.)
+fn zeros<const N: usize>() -> [u8; N]
+    ensures { N ≡ length result }
+{
+    [0; N]
+}
+
+// The documented length of a working slice.
+fn work_space() -> [u8; 524288]
+    ensures { 524288 ≡ length result }
+{
+    zeros()
+}
 
 fn letter(r: Judged) -> u8 {
     match r {
@@ -15,10 +34,10 @@ fn letter(r: Judged) -> u8 {
 // The words of an environment, `mid` of them, and of a store up to `to`; variable 2 is the local.
 fn ask(t: &[u8], mid: usize, to: usize) {
     let locals = [2, 0];
-    let mut w = [0; 524288];
+    let mut w = work_space();
     let r = work_judge::judge(t, &locals, &mut w, 0, mid, to);
     let l = [letter(r)];
-    io::write_all(STDOUT_FILENO, &l);
+    io::write_all(STDOUT, &l);
 }
 
 fn main() {
@@ -124,5 +143,5 @@ fn main() {
         5,
         14,
     );
-    io::write_all(STDOUT_FILENO, b"\n");
+    io::write_all(STDOUT, b"\n");
 }

@@ -1,4 +1,6 @@
 // Accessors of the cycle test's tables in the working slice.
+#![tactic(auto)]
+
 ghost use Rattle.mem_numbers.specs.Numbers.{Got};
 ghost use Rattle.work_tables.specs.Tables.{marks_of, stack_of, dones_of, CanRead, CanWrite};
 ghost use Rattle.work_tables.specs.Writes.{PutMark, PutStack, PutDone};

@@ -1,5 +1,7 @@
 // Whether bindings run in a cycle where they did not at a mark: a search from the classes that the trail touches since the mark, and
 // from no others. The contracts are stated by `solve_explores`, at the tables of the slice.
+#![tactic(auto)]
+
 ghost use Rattle.solve_explores.specs.Search.{Search};
 ghost use Rattle.solve_explores.specs.Since.{CanVisit, Visiting, CanSince, TestedSince};
 ghost use Rattle.work_tables.specs.Tables.{cells_of, vars_of, olds_of, pos_of, log_of, marks_of, stack_of, dones_of, Laid, Logged, Searched};

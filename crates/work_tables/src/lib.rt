@@ -1,5 +1,7 @@
 // The tables of the working slice, as accessors. Only this crate knows where they lie: every contract above speaks of the
 // tables alone.
+#![tactic(auto)]
+
 ghost use Rattle.std.specs.Prelude.{◌≡◌, ◌≤◌, length, get_or};
 ghost use Rattle.mem_numbers.specs.Numbers.{Got};
 ghost use Rattle.mem_words.specs.Words.{words};

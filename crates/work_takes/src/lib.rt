@@ -1,5 +1,7 @@
 // An equation or an application is taken into the tables of the working slice, and settled. The contracts are stated by
 // `solve_tells`, at the tables of the slice.
+#![tactic(auto)]
+
 ghost use Rattle.std.specs.Prelude.{◌≡◌, ◌+◌};
 ghost use Rattle.constraint.proofs.FormSteps.{Holds};
 ghost use Rattle.solve_fields.specs.Read.{tab_of};

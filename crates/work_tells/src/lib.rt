@@ -1,5 +1,7 @@
 // The constraint that a word of the log begins is told to the tables of the working slice. The contract is stated by
 // `solve_tells`, at the tables of the slice; besides, a new application stands where the word does.
+#![tactic(auto)]
+
 ghost use Rattle.std.specs.Prelude.{◌+◌};
 ghost use Rattle.solve_tells.specs.Tells.{CanOne, Telling, one_at, apps_at};
 ghost use Rattle.work_tables.specs.Tables.{cells_of, vars_of, olds_of, pos_of, log_of, Laid, Logged, Noted};

@@ -1,4 +1,6 @@
 // Accessors of cells and of the trail in the working slice.
+#![tactic(auto)]
+
 ghost use Rattle.mem_numbers.specs.Numbers.{Got};
 ghost use Rattle.work_tables.specs.Tables.{cells_of, vars_of, olds_of, CanRead, CanWrite};
 ghost use Rattle.work_tables.specs.Writes.{PutCell, PutVar, PutOld};

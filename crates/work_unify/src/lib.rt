@@ -1,5 +1,7 @@
 // Unification in the working slice: a binding is held against its class, and what joins took away is settled until nothing is
 // left. The contracts are stated by `solve_tells`, at the tables of the slice.
+#![tactic(auto)]
+
 ghost use Rattle.solve_tells.specs.Steps.{CanHold, Holding, CanSettle, Settling};
 ghost use Rattle.work_tables.specs.Tables.{cells_of, vars_of, olds_of, pos_of, log_of, Laid, Logged, Moved};
 

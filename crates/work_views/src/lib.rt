@@ -1,5 +1,7 @@
 // The class of a variable and what it is bound to, in the working slice. The contract is stated by `solve_quiet`, at the tables of
 // the slice.
+#![tactic(auto)]
+
 ghost use Rattle.solve_quiet.specs.View.{CanView, Viewed};
 ghost use Rattle.work_tables.specs.Tables.{cells_of, pos_of, Laid};
 

@@ -1,4 +1,6 @@
 // What a walk over nested boxes does to the tables of the working slice: a box's store is appended to the log and told from there.
+#![tactic(auto)]
+
 ghost use Rattle.mem_words.specs.Words.{words};
 ghost use Rattle.work_walk.specs.Pushes.{CanPush, Pushed};
 

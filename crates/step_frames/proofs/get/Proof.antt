@@ -1,5 +1,6 @@
 -- The table is the part. Assumes nothing.
-use Rattle.step_frames.specs.Frames.{frames_of, can_get}
+use Rattle.step_frames.specs.Frames.{frames_of}
+use Rattle.step_frames.proofs.Frames.{can_get}
 use borrow.Author.Rules.{rules}
 use Rattle.step_frames.proofs.get.Statement.{statement}
 use Rattle.step_frames.proofs.get.Tie as tie

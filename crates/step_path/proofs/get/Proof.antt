@@ -1,5 +1,6 @@
 -- The table is the part. Assumes nothing.
-use Rattle.step_path.specs.Paths.{path_of, can_get}
+use Rattle.step_path.specs.Paths.{path_of}
+use Rattle.step_path.proofs.Paths.{can_get}
 use borrow.Author.Rules.{rules}
 use Rattle.step_path.proofs.get.Statement.{statement}
 use Rattle.step_path.proofs.get.Tie as tie

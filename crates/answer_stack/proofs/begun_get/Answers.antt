@@ -1,0 +1,10 @@
+-- The table is the part. Assumes nothing.
+use Rattle.answer_stack.specs.Slots.{begun_of, get_begun}
+use Rattle.answer_stack.proofs.begun_get.Goals as goal
+
+pub get2-requires : goal.get2-requires
+get2-requires c = get_begun c.requires
+
+pub returns : goal.returns
+unfolding begun_of
+returns c = c.get2.ensures

@@ -1,0 +1,10 @@
+-- The table is the part. Assumes nothing.
+use Rattle.answer_stack.specs.Slots.{numbers_of, get_number}
+use Rattle.answer_stack.proofs.number_get.Goals as goal
+
+pub get2-requires : goal.get2-requires
+get2-requires c = get_number c.requires
+
+pub returns : goal.returns
+unfolding numbers_of
+returns c = c.get2.ensures

@@ -1,0 +1,9 @@
+-- The table is the part, and the others lie outside of it. Assumes nothing.
+use Rattle.answer_stack.specs.Slots.{set_number, put_number}
+use Rattle.answer_stack.proofs.number_put.Goals as goal
+
+pub put2-requires : goal.put2-requires
+put2-requires c = set_number c.requires
+
+pub returns : goal.returns
+returns c = put_number c.put2.ensures

@@ -1,0 +1,10 @@
+-- The table is the part, and the others lie outside of it. Assumes nothing.
+use Rattle.answer_stack.specs.Slots.{put_place}
+use Rattle.answer_stack.proofs.Slots.{set_place}
+use Rattle.answer_stack.proofs.place_put.Goals as goal
+
+pub put4-requires : goal.put4-requires
+put4-requires c = set_place c.requires
+
+pub returns : goal.returns
+returns c = put_place c.requires.laid c.put4.ensures

@@ -1,0 +1,34 @@
+-- The answer is that of the words that are left. Assumes nothing.
+use native.Mathlib.Omega.{arith}
+use Rattle.mem_parts.specs.Parts.{outside_then}
+use Rattle.work_tables.specs.Tables.{laid_after}
+use Rattle.check_roles.specs.Steps.{ends}
+use Rattle.check_scope.specs.Next.{same, stopped, went_on}
+use Rattle.check_scope.proofs.walk.Goals as goal
+
+pub count-n-requires : goal.count-n-requires
+count-n-requires c = tt
+
+pub loop-i-init : goal.loop-i-init
+loop-i-init c = (c.requires.0, same, omega arith, c.requires.2)
+
+pub get-w-requires : goal.get-w-requires
+get-w-requires c = omega (arith, c.count-n.ensures.is)
+
+pub step-g-requires : goal.step-g-requires
+step-g-requires c = (record { laid = c.loop-i.invariant.0; short = c.requires.1; inside = omega (arith, c.count-n.ensures.is); holding = c.loop-i.invariant.3 }, c.get-w.ensures)
+
+pub overflow_add-i : goal.overflow_add-i
+overflow_add-i c = omega (arith, c.count-n.ensures.small)
+
+pub returns-in-Refused : goal.returns-in-Refused
+returns-in-Refused c = (stopped c.step-g.ensures c.in-Refused.is, outside_then c.loop-i.invariant.1 c.step-g.ensures.rest)
+
+pub loop-i-smaller : goal.loop-i-smaller
+loop-i-smaller c = omega arith
+
+pub loop-i-preserved : goal.loop-i-preserved
+loop-i-preserved c = (laid_after c.loop-i.invariant.0 c.step-g.ensures.rest, outside_then c.loop-i.invariant.1 c.step-g.ensures.rest, omega arith, went_on _ c.step-g.ensures c.in-On.is)
+
+pub returns : goal.returns
+returns c = (ends (omega (arith, c.count-n.ensures.is)) c.loop-i.invariant.3, c.loop-i.invariant.1)

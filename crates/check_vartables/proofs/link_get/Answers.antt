@@ -1,0 +1,10 @@
+-- The table is the part. Assumes nothing.
+use Rattle.check_vartables.specs.Tables.{links_of, get_link}
+use Rattle.check_vartables.proofs.link_get.Goals as goal
+
+pub get2-requires : goal.get2-requires
+get2-requires c = get_link c.requires
+
+pub returns : goal.returns
+unfolding links_of
+returns c = c.get2.ensures

@@ -1,0 +1,10 @@
+-- The table is the part. Assumes nothing.
+use Rattle.check_vartables.specs.Tables.{names_of, get_name}
+use Rattle.check_vartables.proofs.name_get.Goals as goal
+
+pub get2-requires : goal.get2-requires
+get2-requires c = get_name c.requires
+
+pub returns : goal.returns
+unfolding names_of
+returns c = c.get2.ensures

@@ -1,0 +1,10 @@
+-- The table is the part. Assumes nothing.
+use Rattle.check_vartables.specs.Tables.{stack_of, get_stack}
+use Rattle.check_vartables.proofs.stack_get.Goals as goal
+
+pub get2-requires : goal.get2-requires
+get2-requires c = get_stack c.requires
+
+pub returns : goal.returns
+unfolding stack_of
+returns c = c.get2.ensures

@@ -1,0 +1,9 @@
+-- The table is the part, and the others lie outside of it. Assumes nothing.
+use Rattle.check_vartables.specs.Tables.{set_stack, put_stack}
+use Rattle.check_vartables.proofs.stack_put.Goals as goal
+
+pub put2-requires : goal.put2-requires
+put2-requires c = set_stack c.requires
+
+pub returns : goal.returns
+returns c = put_stack c.requires.laid c.put2.ensures

@@ -1,0 +1,29 @@
+-- The answers are those of `work_enter`; a push that was told took no more positions than it has applications. Assumes nothing.
+use mathlib.Core.Path.{refl}
+use Rattle.work_marks.proofs.Rooms.{pushed_few}
+use Rattle.work_enter.proofs.Entering.{can_enter, can_test, pushed_as, enter_failed, enter_stopped, enter_deeper, enter_cyclic}
+use Rattle.rule_tells.proofs.deeper.Goals as goal
+
+pub push-o-requires : goal.push-o-requires
+push-o-requires c = can_enter c.requires
+
+pub acyclic_since-requires : goal.acyclic_since-requires
+acyclic_since-requires c = can_test _ _ _ _ _ _ _ _ (can_enter c.requires) _ _ _ refl (pushed_as _ _ _ _ _ _ _ _ _ _ c.in-All.is c.push-o.ensures) c.requires.marks c.requires.at
+
+pub returns-then-acyclic_since : goal.returns-then-acyclic_since
+returns-then-acyclic_since c = record {
+  entered = enter_deeper _ _ _ _ _ _ _ _ (can_enter c.requires) _ _ _ refl (pushed_as _ _ _ _ _ _ _ _ _ _ c.in-All.is c.push-o.ensures) _ c.acyclic_since.ensures.1 c.acyclic_since.result c.if-acyclic_since.true c.acyclic_since.ensures.0;
+  few = pushed_few (can_enter c.requires) (pushed_as _ _ _ _ _ _ _ _ _ _ c.in-All.is c.push-o.ensures);
+}
+
+pub returns-else-acyclic_since : goal.returns-else-acyclic_since
+returns-else-acyclic_since c = record {
+  entered = enter_cyclic _ _ _ _ _ _ _ _ (can_enter c.requires) _ _ _ refl (pushed_as _ _ _ _ _ _ _ _ _ _ c.in-All.is c.push-o.ensures) _ c.acyclic_since.ensures.1 c.acyclic_since.result c.if-acyclic_since.false c.acyclic_since.ensures.0;
+  few = tt;
+}
+
+pub returns-in-Failed : goal.returns-in-Failed
+returns-in-Failed c = record { entered = enter_failed _ _ _ _ _ _ _ _ (can_enter c.requires) _ _ (pushed_as _ _ _ _ _ _ _ _ _ _ c.in-Failed.is c.push-o.ensures); few = tt }
+
+pub returns-in-NoRoom : goal.returns-in-NoRoom
+returns-in-NoRoom c = record { entered = enter_stopped _ _ _ _ _ _ _ _ (can_enter c.requires) _ _ (pushed_as _ _ _ _ _ _ _ _ _ _ c.in-NoRoom.is c.push-o.ensures); few = tt }

@@ -1,0 +1,12 @@
+use mathlib.Core.Path.{◌≡◌}
+use Prim.Native.Nat.{◌-◌, ◌≤◌}
+use lib.ListN.{length}
+use Rattle.mem_words.specs.Words.{words}
+use Rattle.step_guards.specs.Guards.{Asks}
+use Rattle.step_guards.proofs.walk.Given as goal
+
+abbrev pub invariant-loop-j : goal.invariant-loop-j
+invariant-loop-j l = (l.g ≤ l.j) × (l.j ≤ l.e) × Asks (words l.t) l.g l.n l.w l.j l.d l.k l.x l.y l.z l.h × (length l.w ≡ length l.initial.w)
+
+abbrev pub decreases-loop-j : goal.decreases-loop-j
+decreases-loop-j l = l.e - l.j
