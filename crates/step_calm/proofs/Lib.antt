@@ -1,3 +1,4 @@
+pub mod Standing
 pub mod Walkable
 pub mod Resting
 pub mod Guarding

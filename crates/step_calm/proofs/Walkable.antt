@@ -1,35 +1,24 @@
 -- A goal that stands in the words of a state can be walked over: it is a bracket that closes, and the solver has room for the stores around
 -- it and down to each and-box in it. Assumes nothing.
-use mathlib.Core.Path.{◌≡◌, refl, ap, sym, subst}
+use mathlib.Core.Path.{◌≡◌, refl, sym, subst}
 use mathlib.Core.Bool.{true}
-use mathlib.Core.List.{List, [], ◌∷◌}
+use mathlib.Core.List.{List, []}
 use Prim.Native.Nat.{ℕ, ◌<◌, ◌≤◌}
 use native.Mathlib.Omega.{arith}
 use lib.Dec.{eqb}
-use lib.ListN.{length, get_or, length-append}
-use Rattle.akl.specs.Base.{Name}
-use Rattle.akl.specs.Configuration as akl
-use Rattle.akl.specs.Configuration.{Node, Ctx}
+use lib.ListN.{length, get_or}
 use Rattle.akl.specs.Places.{Place, at}
 use Rattle.mem_words.specs.declared.Word.{Word}
 use Rattle.mem_words.specs.declared.Word.TheVariants as words
-use Rattle.mem_sorts.specs.declared.Kind.{Kind}
-use Rattle.mem_sorts.specs.declared.Kind.TheVariants.{Or, And, Guarded, Member, Wait, Cond, Commit}
-use Rattle.mem_sorts.specs.Shapes.{kind_no}
-use Rattle.store_words.specs.Boxes.{node_words}
-use Rattle.store_words.specs.Contexts.{before, after}
+use Rattle.mem_sorts.specs.declared.Kind.TheVariants.{And}
 use Rattle.store_form.specs.State.{State, table, number_in}
 use Rattle.store_room.proofs.Placed.{room_place}
 use Rattle.store_room.proofs.Drawing.{roomy_stores}
 use Rattle.rule_words.specs.Scans.{opens}
-use Rattle.rule_words.proofs.Balance.{seg_ends}
 use Rattle.rule_effects.specs.Effects.{behind}
 use Rattle.rule_effects.specs.Conditions.{kind_in, kind_at}
 use Rattle.rule_effects.specs.Standing.{Stands}
-use Rattle.rule_effects.proofs.Shapes.{node_tree}
-use Rattle.rule_effects.proofs.Frames.{stands_seg}
-use Rattle.rule_kinds.specs.Kinds.{kind_takes, place_takes, takes_in}
-use Rattle.rule_kinds.proofs.KindWords.{opens_kind}
+use Rattle.rule_kinds.specs.Kinds.{place_takes, takes_in}
 use Rattle.rule_ranges.specs.Ranges.{ranges_from}
 use Rattle.rule_ranges.specs.Asked.{Roomy, RoomFor}
 use Rattle.step_meant.specs.Meant.{Meant, StandsAt}
@@ -38,18 +27,10 @@ use Rattle.step_applies.proofs.Meanings.{stands_behind, root_is}
 use Rattle.step_unrest.proofs.Placing.{can_place}
 use Rattle.step_unrest.proofs.Resting.{can_quiet_in}
 use Rattle.step_open.proofs.Turns.{false_true}
+use Rattle.step_calm.proofs.Standing.{and_takes, stands_opens, stands_whole}
 use Rattle.step_turn.specs.Stood.{CanWalk}
 
--- the place of an and-box takes the rules of and-boxes
-and_takes : (k : Kind) (W : List Word) (j : ℕ) → eqb (kind_no k) 1 ≡ true → kind_takes k W j ≡ 7
-and_takes Or W j e = absurd (false_true e)
-and_takes And W j e = refl
-and_takes Guarded W j e = absurd (false_true e)
-and_takes Member W j e = absurd (false_true e)
-and_takes Wait W j e = absurd (false_true e)
-and_takes Cond W j e = absurd (false_true e)
-and_takes Commit W j e = absurd (false_true e)
-
+-- the place of an and-box takes the rules of and-boxes, whatever its word
 word_takes : (w : Word) (W : List Word) (j : ℕ) → eqb (kind_in w) 1 ≡ true → place_takes w W j ≡ 7
 word_takes words.End W j e = absurd (false_true e)
 word_takes (words.Free v) W j e = absurd (false_true e)
@@ -62,21 +43,6 @@ word_takes words.Bad W j e = absurd (false_true e)
 and_box_takes : (W : List Word) (j : ℕ) → kind_at W j And ≡ true → takes_in W j ≡ 7
 unfolding kind_at takes_in
 and_box_takes W j e = word_takes (get_or W j words.Bad) W j e
-
--- it opens a bracket, and closes within the words
-module _ (num : Name → ℕ) {k : akl.Kind} {χ : Ctx k} {n : Node k} {Z W : List Word} {i : ℕ} where
-  stands_opens : Stands num χ n Z W i → opens (get_or W i words.Bad) 0 ≡ true
-  stands_opens s = ap (λ (w : Word). opens w 0) (opens_kind num s)
-
-  stands_whole : Stands num χ n Z W i → behind W i ≤ length W
-  stands_whole s =
-      let h = s.begins in
-      let e = seg_ends (node_words num n) (node_tree num n) (before num χ [] ∷ []) _ W i (stands_seg num s) (omega (arith, h)) in
-      let l = ap length (stands_seg num s) in
-      let a = length-append (before num χ []) (node_words num n (after num χ Z)) in
-      let f = ap length ((node_tree num n).balanced.front (after num χ Z)) in
-      let b = length-append (node_words num n []) (after num χ Z) in
-      omega (arith, e, l, a, f, b)
 
 module _ (W D : List Word) (g : ℕ) (c : CanAsk W D g) where
   goal_around : (s : State) (pl : Place) → Meant W D s → StandsAt s W pl g → (opens (get_or W g words.Bad) 0 ≡ true) × (behind W g ≤ length W) × RoomFor W (ranges_from W 0 g)
