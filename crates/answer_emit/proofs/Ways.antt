@@ -1,12 +1,14 @@
 -- The ways in which a text is put: it does not fit, it is only counted, it is written. Assumes nothing.
-use mathlib.Core.Path.{◌≡◌, refl, ap, sym, ◌∙◌}
+use mathlib.Core.Path.{◌≡◌, refl, ap, ap₂, sym, ◌∙◌}
 use mathlib.Core.List.{List, [], ◌∷◌, ◌++◌}
 use mathlib.Core.Bool.{Bool, true, false}
-use Prim.Native.Nat.{ℕ, suc, ◌+◌, ◌<◌, ◌≤◌}
+use Prim.Native.Nat.{ℕ, ◌+◌, ◌-◌, ◌<◌, ◌≤◌}
 use native.Mathlib.Numerals.{add-one}
 use native.Mathlib.Decide.{dec_lt}
 use native.Mathlib.Omega.{arith}
+use borrow.Rule.Slice.PartMut.{put_mid}
 use lib.ListN.{length, set, take, drop, length-set}
+use Rattle.std.proofs.Common.{drop-drop, length-append, length-take-le, length-drop}
 use lib.Seq.{set_split}
 use Rattle.akl.specs.Base.{if}
 use Rattle.answer_emit.specs.Put.{put, Put, Ends, Filled}
@@ -36,6 +38,9 @@ fit {cap} {at} {n} {r} E h = go (dec_lt cap (at + n))
     go (yes p) = absurd (omega (arith, E.over p))
     go (no p) = (omega arith, E.fits (omega arith))
 
+pub fit_length : {cap at n r : ℕ} → Ends cap at n r → r ≤ cap → n ≡ r - at
+fit_length E h = omega (arith, (fit E h).1)
+
 pub fit_room : {cap at n r : ℕ} → Ends cap at n r → r ≤ cap → at + n ≤ cap
 fit_room E h = (fit E h).0
 
@@ -59,3 +64,11 @@ filled_as {T} {U} {O} {X} {at} e f = record { list = f.list ∙ ap (λ (t : List
 pub filled_byte : (O : List ℕ) (at b : ℕ) → at < length O → Filled (b ∷ []) O at (set O at b)
 unfolding put
 filled_byte O at b h = record { list = set_split O at b h ∙ ap (λ (k : ℕ). take at O ++ (b ∷ drop k O)) (sym (add-one at)); long = length-set O at b }
+
+-- a piece, copied from where it stands
+pub filled_piece : {P Q O : List ℕ} {at k : ℕ} → at + k ≤ length O → length P ≡ k → Q ≡ P → Filled P O at (put_mid at k O Q)
+unfolding put
+filled_piece {P} {Q} {O} {at} {k} h l e = record {
+  list = ap₂ (λ (q r : List ℕ). take at O ++ (q ++ r)) e (drop-drop k at O ∙ ap (λ (m : ℕ). drop (at + m) O) (sym l));
+  long = omega (arith, h, l, ap length e, length-append (take at O) (Q ++ drop k (drop at O)), length-append Q (drop k (drop at O)), length-take-le at O (omega (arith, h)), length-drop k (drop at O), length-drop at O);
+}

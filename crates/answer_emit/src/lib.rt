@@ -56,9 +56,7 @@ fn digits_back(out: &mut [u8], at: usize, len: usize, n: usize)
     ensures { Filled (digits len n) out.old at out.new }
 {
     let mut k = n;
-    let mut j = len;
-    while 0 < j {
-        j -= 1;
+    for j in (0..len).rev() {
         out[at + j] = (48 + k % 10) as u8;
         k = k / 10;
     }
@@ -125,29 +123,38 @@ pub fn name(table: &[u8], i: usize, out: &mut [u8], at: usize, write: bool) -> u
     end
 }
 
+// The bytes of `piece`.
+fn text(out: &mut [u8], at: usize, piece: &[u8], write: bool) -> usize
+    ensures { Put piece.now write out.old at out.new result }
+{
+    let end = end_of(out, at, piece.len());
+    if out.len() < end {
+        return end;
+    }
+    if write { // all of them
+        out[at..end].copy_from_slice(piece);
+        return end;
+    }
+    end
+}
+
 // Between a variable and its term.
 pub fn equals(out: &mut [u8], at: usize, write: bool) -> usize
     ensures { Put (bytes " = ") write out.old at out.new result }
 {
-    let a = byte(out, at, 32, write);
-    let b = byte(out, a, 61, write);
-    byte(out, b, 32, write)
+    text(out, at, b" = ", write)
 }
 
 // Between two bindings.
 pub fn comma(out: &mut [u8], at: usize, write: bool) -> usize
     ensures { Put (bytes ", ") write out.old at out.new result }
 {
-    let a = byte(out, at, 44, write);
-    byte(out, a, 32, write)
+    text(out, at, b", ", write)
 }
 
 // The text of an answer to a query without variables.
 pub fn truth(out: &mut [u8], at: usize, write: bool) -> usize
     ensures { Put (bytes "true") write out.old at out.new result }
 {
-    let a = byte(out, at, 116, write);
-    let b = byte(out, a, 114, write);
-    let c = byte(out, b, 117, write);
-    byte(out, c, 101, write)
+    text(out, at, b"true", write)
 }

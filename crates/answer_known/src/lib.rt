@@ -13,7 +13,7 @@ pub fn known_get(w: &[u8], k: usize) -> usize
     requires { CanRead w.now 2048 k }
     ensures { Got (known_of w.now) k 4294967296 result }
 {
-    mem_parts::get4(w, 479232, 487424, k)
+    mem_parts::get::<4>(w, 479232, 487424, k)
 }
 
 // Makes `v` the entry of the application `k`.
@@ -21,7 +21,7 @@ pub fn known_put(w: &mut [u8], k: usize, v: usize)
     requires { CanWrite w.old 2048 k 4294967296 v }
     ensures { PutKnown w.old k v w.new }
 {
-    mem_parts::put4(w, 479232, 487424, k, v);
+    mem_parts::put::<4>(w, 479232, 487424, k, v);
 }
 
 // Forgets all: no class was met, and no length is known.

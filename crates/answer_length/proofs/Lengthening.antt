@@ -1,5 +1,5 @@
 -- The length of the line from its first binding to its last. Assumes nothing.
-use mathlib.Core.Path.{◌≡◌, refl, ap, ap₂, sym, ◌∙◌}
+use mathlib.Core.Path.{◌≡◌, refl, ap, ap₂, sym, ◌∙◌, subst}
 use mathlib.Core.Bool.{false}
 use mathlib.Core.List.{List, [], ◌∷◌, ◌++◌, map}
 use Prim.Native.Nat.{ℕ, ◌+◌, ◌<◌}
@@ -79,6 +79,9 @@ module _ (N : List ℕ) (W : List Word) (P T : List ℕ) where
 
   pub long_start : (Q M G : List ℕ) (m : ℕ) → 0 < length Q → Numbered M [] 0 65535 → NoneKnown G → Lengthened N Q W P T m M G 0 0 0
   long_start Q M G m h k z = record { inside = h; seen = []; done = []; line = line_first N W P T Q h; met = record { numbers = k; memo = memo_none (term_in N W P T) T z.zero }; long = sym (cap_same m 0 (omega arith)) }
+
+  pub long_at : {Q M G : List ℕ} {m i j c a : ℕ} → i ≡ j → Lengthened N Q W P T m M G i c a → Lengthened N Q W P T m M G j c a
+  long_at {Q} {M} {G} {m} {i} {j} {c} {a} e l = subst (λ (k : ℕ). Lengthened N Q W P T m M G k c a) e l
 
   pub long_can : {Q M G : List ℕ} {m i c a : ℕ} → i < 65535 → Lengthened N Q W P T m M G i c a → CanVisit N W P T M G i c m
   long_can h l = record { low = h; seen = l.seen; met = l.met }

@@ -48,19 +48,18 @@ fn bindings(w: &mut [u8], used: usize, table: &[u8], vars: &[u8], n: usize, m: u
     requires { Laid w.old × Logged used × (m < 4294967294) × Shown (triples table.now) (log_of used w.old) (pos_of w.old) (cells_of w.old) × CanLine (triples table.now) (triples vars.now) × Numbered (numbers_of w.old) [] 0 65535 × NoneKnown (known_of w.old) × (n ≡ length (triples vars.now)) × (0 < n) }
     ensures { (result ≡ cap m (length (whole (triples table.now) (triples vars.now) (log_of used w.old) (pos_of w.old) (cells_of w.old)))) × Counted w.old w.new }
 {
-    let mut i = 0;
+    let last = n - 1;
     let mut c = 0;
     let mut a = 0;
-    loop {
-        let v = mem_numbers::triple_get(vars, i);
+    for i in 0..last {
+        let v = mem_numbers::get::<3>(vars, i);
         let t = binding(w, used, table, v, Variable(i), c, m, a);
-        i += 1;
-        if i == n {
-            return t.at;
-        }
         c = t.count;
         a = answer_size::plus(m, t.at, 2);
     }
+    let v = mem_numbers::get::<3>(vars, last);
+    let t = binding(w, used, table, v, Variable(last), c, m, a);
+    t.at
 }
 
 // The length of the line of an answer, or `m` + 1 if it is more than `m`: `vars` has the names of the query variables as nodes of
@@ -70,7 +69,7 @@ fn line_length(w: &mut [u8], used: usize, table: &[u8], vars: &[u8], m: usize) -
     ensures { (result ≡ cap m (length (line_text (map (named (triples table.now)) (triples vars.now)) (terms (term_in (triples table.now) (log_of used w.old) (pos_of w.old) (cells_of w.old)) (range 0 (length (triples vars.now))))))) × Counted w.old w.new }
 {
     answer_known::forget(w);
-    let n = mem_numbers::triple_count(vars);
+    let n = mem_numbers::count::<3>(vars);
     if n == 0 {
         return answer_size::plus(m, 0, 4); // `true`
     }

@@ -81,6 +81,9 @@ module _ (N : List ℕ) (W : List Word) (P T : List ℕ) where
   pub lined_start : (Q M O : List ℕ) (w : Bool) → 0 < length Q → Numbered M [] 0 65535 → Lined N Q W P T O w M O 0 0 0
   lined_start Q M O w h k = record { inside = h; seen = []; done = []; line = line_first Q h; numbers = k; put = put_nothing w O 0 (omega arith) }
 
+  pub lined_at : {Q O M O' : List ℕ} {w : Bool} {i j c a : ℕ} → i ≡ j → Lined N Q W P T O w M O' i c a → Lined N Q W P T O w M O' j c a
+  lined_at {Q} {O} {M} {O'} {w} {i} {j} {c} {a} e l = subst (λ (k : ℕ). Lined N Q W P T O w M O' k c a) e l
+
   pub lined_print : {Q O M O' : List ℕ} {w : Bool} {i x c a : ℕ} → x < 65535 → Lined N Q W P T O w M O' i c a → CanPrint M x c O' a
   lined_print h l = record { low = h; seen = l.seen; numbers = l.numbers; room = put_room l.put }
 

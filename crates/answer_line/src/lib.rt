@@ -51,22 +51,21 @@ fn bindings(
     requires { Laid w.old × Logged used × Shown (triples table.now) (log_of used w.old) (pos_of w.old) (cells_of w.old) × CanLine (triples table.now) (triples vars.now) × Numbered (numbers_of w.old) [] 0 65535 × (n ≡ length (triples vars.now)) × (0 < n) }
     ensures { Put (whole (triples table.now) (triples vars.now) (log_of used w.old) (pos_of w.old) (cells_of w.old)) write out.old 0 out.new result × Answered w.old w.new }
 {
-    let mut i = 0;
+    let last = n - 1;
     let mut c = 0;
     let mut a = 0;
-    loop {
-        let v = mem_numbers::triple_get(vars, i);
+    for i in 0..last {
+        let v = mem_numbers::get::<3>(vars, i);
         let t = binding(w, used, table, v, Variable(i), c, out, a, write);
-        i += 1;
-        if i == n {
-            return t.at;
-        }
         if out.len() < t.at {
             return t.at;
         }
         c = t.count;
         a = answer_emit::comma(out, t.at, write);
     }
+    let v = mem_numbers::get::<3>(vars, last);
+    let t = binding(w, used, table, v, Variable(last), c, out, a, write);
+    t.at
 }
 
 // The line of an answer: `vars` has the names of the query variables as nodes of `table`, and the variable of the i-th is i.
@@ -82,7 +81,7 @@ pub fn line(
     ensures { Put (line_text (map (named (triples table.now)) (triples vars.now)) (terms (term_in (triples table.now) (log_of used w.old) (pos_of w.old) (cells_of w.old)) (range 0 (length (triples vars.now))))) write out.old 0 out.new result × Answered w.old w.new }
 {
     answer_stack::clear(w);
-    let n = mem_numbers::triple_count(vars);
+    let n = mem_numbers::count::<3>(vars);
     if n == 0 {
         return answer_emit::truth(out, 0, write);
     }

@@ -7,6 +7,8 @@ use native.Mathlib.Decide.{dec_lt}
 use native.Mathlib.Omega.{arith}
 use lib.ListN.{length, length-append}
 use Rattle.akl.specs.Answers.{unknowns, term_text}
+use Rattle.std.specs.Prelude.{Option}
+use Rattle.mem_variables.specs.declared.Variable.{Variable}
 use Rattle.mem_words.specs.declared.Word.{Word}
 use Rattle.answer_walk.specs.Walk.{rest_of, Going, Back}
 use Rattle.answer_walk.specs.Numbered.{Numbered}
@@ -17,7 +19,7 @@ use Rattle.answer_emit.specs.Put.{Put}
 use Rattle.answer_emit.proofs.Put.{put_nothing, put_then, put_as}
 use Rattle.work_tables.specs.Tables.{cells_of, pos_of, log_of, Laid, Logged}
 use Rattle.answer_stack.specs.Slots.{Answered, answered_at, answered_to}
-use Rattle.answer_turn.specs.Turning.{term_in, Shown, Run, Ready, Turned, Next, left}
+use Rattle.answer_turn.specs.Turning.{term_in, Shown, Run, Ready, Turned, Next, left, goes, comes}
 use Rattle.answer_print.specs.Printing.{CanPrint, Printed}
 
 -- what is written and what is to come, for the list of those that were met at first
@@ -67,27 +69,10 @@ module _ (N : List ℕ) (W : List Word) (P T : List ℕ) where
     long = refl;
   }
 
-  any_x : {S K M : List ℕ} {y h c : ℕ} {s F D A : List ℕ} (z : ℕ) → Run N W P T S K M false y h c s F D A → Run N W P T S K M false z h c s F D A
-  any_x z u = record { stack = u.stack; numbers = u.numbers; next = u.next }
-
-  -- a turn behind a term does not ask for the variable
-  pub turned_behind : {S K M O' S' K' M' O'' : List ℕ} {w going going' : Bool} {y h c a y' h' c' a' : ℕ} → going ≡ false → Turned N W P T S K M O' false 0 h c a w S' K' M' O'' going' y' h' c' a' → Turned N W P T S K M O' going y h c a w S' K' M' O'' going' y' h' c' a'
-  turned_behind {S} {K} {M} {O'} {S'} {K'} {M'} {O''} {w} {going} {going'} {y} {h} {c} {a} {y'} {h'} {c'} {a'} e t = subst (λ (g : Bool). Turned N W P T S K M O' g y h c a w S' K' M' O'' going' y' h' c' a') (sym e) (record { step = λ s F D A u. let v = t.step s F D A (any_x 0 u) in record { seen = v.seen; more = v.more; run = v.run; put = v.put; less = v.less } })
-
-  pub turned_going : {S K M O' S' K' M' O'' : List ℕ} {w going going' : Bool} {y h c a y' h' c' a' : ℕ} → going ≡ true → Turned N W P T S K M O' true y h c a w S' K' M' O'' going' y' h' c' a' → Turned N W P T S K M O' going y h c a w S' K' M' O'' going' y' h' c' a'
-  turned_going {S} {K} {M} {O'} {S'} {K'} {M'} {O''} {w} {going} {going'} {y} {h} {c} {a} {y'} {h'} {c'} {a'} e t = subst (λ (g : Bool). Turned N W P T S K M O' g y h c a w S' K' M' O'' going' y' h' c' a') (sym e) t
-
   module _ {M₀ : List ℕ} {x c₀ : ℕ} {O : List ℕ} {at : ℕ} {w : Bool} {S K M O' : List ℕ} {y h c a : ℕ} where
     -- what the next turn starts with
-    pub walk_going : {going : Bool} (s : List ℕ) → Numbered M₀ s c₀ 65535 → Walking N W P T M₀ x c₀ O at w S K M O' going y h c a → going ≡ true → Ready N W P T S K M true y h c
-    walk_going s k v e =
-        let u = v.here s k in
-        record { seen = u.seen; final = unknowns (term_in N W P T x) s; done = u.done; all = term_text (term_in N W P T x) (unknowns (term_in N W P T x) s); run = subst (λ (g : Bool). Run N W P T S K M g y h c u.seen (unknowns (term_in N W P T x) s) u.done (term_text (term_in N W P T x) (unknowns (term_in N W P T x) s))) e u.run }
-
-    pub walk_behind : {going : Bool} (s : List ℕ) → Numbered M₀ s c₀ 65535 → Walking N W P T M₀ x c₀ O at w S K M O' going y h c a → going ≡ false → Ready N W P T S K M false 0 h c
-    walk_behind s k v e =
-        let u = v.here s k in
-        record { seen = u.seen; final = unknowns (term_in N W P T x) s; done = u.done; all = term_text (term_in N W P T x) (unknowns (term_in N W P T x) s); run = any_x 0 (subst (λ (g : Bool). Run N W P T S K M g y h c u.seen (unknowns (term_in N W P T x) s) u.done (term_text (term_in N W P T x) (unknowns (term_in N W P T x) s))) e u.run) }
+    pub walk_ready : {going : Bool} (s : List ℕ) → Numbered M₀ s c₀ 65535 → Walking N W P T M₀ x c₀ O at w S K M O' going y h c a → Ready N W P T S K M going y h c
+    walk_ready s k v = let u = v.here s k in record { seen = u.seen; final = unknowns (term_in N W P T x) s; done = u.done; all = term_text (term_in N W P T x) (unknowns (term_in N W P T x) s); run = u.run }
 
     -- one turn more
     pub walk_more : {S' K' M' O'' : List ℕ} {going going' : Bool} {y' h' c' a' : ℕ} → length O'' ≡ length O' → Walking N W P T M₀ x c₀ O at w S K M O' going y h c a → Turned N W P T S K M O' going y h c a w S' K' M' O'' going' y' h' c' a' → Walking N W P T M₀ x c₀ O at w S' K' M' O'' going' y' h' c' a'
@@ -114,16 +99,22 @@ module _ (N : List ℕ) (W : List Word) (P T : List ℕ) where
         rest s F D A false n k p = over_all (rest_of (term_in N W P T) (frames W S K h) F) A n.text k p
 
     -- or where all is written
-    pub walk_done : {going : Bool} → Walking N W P T M₀ x c₀ O at w S K M O' going y h c a → going ≡ false → h ≡ 0 → Printed N W P T M₀ x c₀ O at w M O' c a
-    walk_done {going} v e z = record {
+    pub walk_done : Walking N W P T M₀ x c₀ O at w S K M O' false y h c a → h ≡ 0 → Printed N W P T M₀ x c₀ O at w M O' c a
+    walk_done v z = record {
       put = λ s k. let u = v.here s k in put_as _ (done_text (term_in N W P T) (last u.run)) u.put;
       numbers = λ g s k. let u = v.here s k in subst (λ (l : List ℕ). Numbered M l c 65535) (done_seen (term_in N W P T) (last u.run)) u.run.numbers;
     }
       where
-        last : {s F D A : List ℕ} → Run N W P T S K M going y h c s F D A → Back (term_in N W P T) [] s F D A
-        last {s} {F} {D} {A} u =
-            let b : Back (term_in N W P T) (frames W S K h) s F D A = (subst (λ (g : Bool). Run N W P T S K M g y h c s F D A) e u).next in
-            subst (λ (fs : List (List ℕ)). Back (term_in N W P T) fs s F D A) (ap (frames W S K) z ∙ no_frames S K) b
+        last : {s F D A : List ℕ} → Run N W P T S K M false y h c s F D A → Back (term_in N W P T) [] s F D A
+        last {s} {F} {D} {A} u = subst (λ (fs : List (List ℕ)). Back (term_in N W P T) fs s F D A) (ap (frames W S K) z ∙ no_frames S K) u.next
+
+  -- where it is known whether a variable is to be written next
+  pub less_as : (S K : List ℕ) (h : ℕ) {n : ℕ} {o o' : Option Variable} → o ≡ o' → n < left (term_in N W P T) W S K (goes o') (comes o') h → n < left (term_in N W P T) W S K (goes o) (comes o) h
+  less_as S K h {n} e l = subst (λ (z : Option Variable). n < left (term_in N W P T) W S K (goes z) (comes z) h) (sym e) l
+
+  module _ {M₀ : List ℕ} {x c₀ : ℕ} {O : List ℕ} {at : ℕ} {w : Bool} {S K M O' : List ℕ} {h c a : ℕ} {o o' : Option Variable} (e : o ≡ o') where
+    pub walk_as : Walking N W P T M₀ x c₀ O at w S K M O' (goes o) (comes o) h c a → Walking N W P T M₀ x c₀ O at w S K M O' (goes o') (comes o') h c a
+    walk_as v = subst (λ (z : Option Variable). Walking N W P T M₀ x c₀ O at w S K M O' (goes z) (comes z) h c a) e v
 
 -- ---------------------------------------------------------------------------------------------
 -- The solver's tables are as they were at first.

@@ -7,7 +7,7 @@ ghost use Rattle.answer_stack.specs.Slots.{numbers_of, Answered};
 ghost use Rattle.answer_turn.specs.Turning.{Shown};
 ghost use Rattle.answer_print.specs.Printing.{CanPrint, Printed};
 
-use answer_turn::Wrote;
+use answer_turn::{Turn, Wrote};
 use mem_variables::Variable;
 
 // The term of `x`, with `count` unknowns met before it. It stops where the text no longer fits: a text may be far longer than
@@ -25,32 +25,34 @@ pub fn term(
     requires { Laid w.old × Logged used × Shown (triples table.now) (log_of used w.old) (pos_of w.old) (cells_of w.old) × CanPrint (numbers_of w.old) x.0 count out.old at }
     ensures { Printed (triples table.now) (log_of used w.old) (pos_of w.old) (cells_of w.old) (numbers_of w.old) x.0 count out.old at write (numbers_of w.new) out.new result.count result.at × Answered w.old w.new }
 {
-    let mut going = true;
-    let mut y = x;
-    let mut high = 0;
-    let mut c = count;
-    let mut a = at;
+    let mut turn = Turn {
+        next: Some(x),
+        high: 0,
+        count,
+        at,
+    };
     loop {
-        if out.len() < a {
-            return Wrote { at: a, count: c };
+        if out.len() < turn.at {
+            return Wrote {
+                at: turn.at,
+                count: turn.count,
+            };
         }
-        if going {
-            let t = answer_turn::begin(w, used, table, y, high, c, out, a, write);
-            going = t.going;
-            y = t.x;
-            high = t.high;
-            c = t.count;
-            a = t.at;
-        } else {
-            if high == 0 {
-                return Wrote { at: a, count: c };
+        match turn.next {
+            Some(y) => turn = answer_turn::begin(
+                w, used, table, y, turn.high, turn.count, out, turn.at, write,
+            ),
+            None => {
+                if turn.high == 0 {
+                    return Wrote {
+                        at: turn.at,
+                        count: turn.count,
+                    };
+                }
+                turn = answer_turn::behind(
+                    w, used, table, turn.high, turn.count, out, turn.at, write,
+                );
             }
-            let t = answer_turn::behind(w, used, table, high, c, out, a, write);
-            going = t.going;
-            y = t.x;
-            high = t.high;
-            c = t.count;
-            a = t.at;
         }
     }
 }

@@ -12,7 +12,7 @@ pub fn number_get(w: &[u8], r: usize) -> usize
     requires { CanRead w.now 65536 r }
     ensures { Got (numbers_of w.now) r 65536 result }
 {
-    mem_parts::get2(w, 335872, 466944, r)
+    mem_parts::get::<2>(w, 335872, 466944, r)
 }
 
 // Makes `v` the entry of the class `r`.
@@ -20,7 +20,7 @@ pub fn number_put(w: &mut [u8], r: usize, v: usize)
     requires { CanWrite w.old 65536 r 65536 v }
     ensures { PutNumber w.old r v w.new }
 {
-    mem_parts::put2(w, 335872, 466944, r, v);
+    mem_parts::put::<2>(w, 335872, 466944, r, v);
 }
 
 // No class was met.
@@ -36,7 +36,7 @@ pub fn place_get(w: &[u8], i: usize) -> usize
     requires { CanRead w.now 2048 i }
     ensures { Got (places_of w.now) i 4294967296 result }
 {
-    mem_parts::get4(w, 466944, 475136, i)
+    mem_parts::get::<4>(w, 466944, 475136, i)
 }
 
 // Makes `p` the application at `i` of the stack.
@@ -44,7 +44,7 @@ fn place_put(w: &mut [u8], i: usize, p: usize)
     requires { CanWrite w.old 2048 i 4294967296 p }
     ensures { PutPlace w.old i p w.new }
 {
-    mem_parts::put4(w, 466944, 475136, i, p);
+    mem_parts::put::<4>(w, 466944, 475136, i, p);
 }
 
 // How many arguments of the application at `i` of the stack were begun.
@@ -52,7 +52,7 @@ pub fn begun_get(w: &[u8], i: usize) -> usize
     requires { CanRead w.now 2048 i }
     ensures { Got (begun_of w.now) i 65536 result }
 {
-    mem_parts::get2(w, 475136, 479232, i)
+    mem_parts::get::<2>(w, 475136, 479232, i)
 }
 
 // Makes it `k`.
@@ -60,7 +60,7 @@ pub fn begun_put(w: &mut [u8], i: usize, k: usize)
     requires { CanWrite w.old 2048 i 65536 k }
     ensures { PutBegun w.old i k w.new }
 {
-    mem_parts::put2(w, 475136, 479232, i, k);
+    mem_parts::put::<2>(w, 475136, 479232, i, k);
 }
 
 // Puts the application at `p`, with `k` arguments begun, at `h` of the stack.

@@ -1,8 +1,9 @@
 -- What one turn of the traversal starts with, and what it leaves. Assumes nothing.
 -- With N for the table of names, W, P and T for the solver's words, positions and cells, S and K for the stack, M for the numbers.
-use Rattle.std.specs.Prelude.{◌≡◌, Bool, true, false, List, ◌++◌, ℕ, ◌+◌, ◌/◌, ◌%◌, ◌<◌, length, get_or}
+use Rattle.std.specs.Prelude.{◌≡◌, Bool, true, false, Option, Some, None, List, ◌++◌, ℕ, ◌+◌, ◌/◌, ◌%◌, ◌<◌, length, get_or}
 use Rattle.akl.specs.Base.{bytes, decimal}
 use Rattle.akl.specs.Answers.{Term, unbound, unknowns, position}
+use Rattle.mem_variables.specs.declared.Variable.{Variable}
 use Rattle.mem_words.specs.declared.Word.{Word}
 use Rattle.mem_words.specs.declared.Word.TheVariants.{Bad}
 use Rattle.read_nodes.specs.Spell.{named, Lower}
@@ -31,6 +32,15 @@ pub record Shown (N : List ℕ) (W : List Word) (P T : List ℕ) : Type 0 where
   pub classes : (x : ℕ) → x < 65535 → rep T x < 65535
   pub names : Lower N (length N)
   pub labels : (i : ℕ) → num_of (get_or W i Bad) < length N
+
+-- what a turn hands back of the variable that is to be written next: is there one, and which?
+abbrev pub goes : Option Variable → Bool
+goes (Some x) = true
+goes None = false
+
+abbrev pub comes : Option Variable → ℕ
+comes (Some x) = x.0
+comes None = 0
 
 -- what is to come: x, and then what the frames hold; or this alone
 abbrev pub Next : (ℕ → Term) → List Word → List ℕ → List ℕ → Bool → ℕ → ℕ → List ℕ → List ℕ → List ℕ → List ℕ → Type 0

@@ -5,7 +5,7 @@ ghost use Rattle.std.specs.Prelude.{true, false, ◌<◌};
 ghost use Rattle.mem_numbers.specs.Numbers.{triples};
 ghost use Rattle.work_tables.specs.Tables.{cells_of, pos_of, log_of, Laid, Logged};
 ghost use Rattle.answer_stack.specs.Slots.{numbers_of, places_of, begun_of, Answered};
-ghost use Rattle.answer_turn.specs.Turning.{Shown, Ready, Turned, CanNumber, Named, AtBound};
+ghost use Rattle.answer_turn.specs.Turning.{Shown, Ready, Turned, CanNumber, Named, AtBound, goes, comes};
 
 use mem_variables::Variable;
 
@@ -16,12 +16,11 @@ pub struct Wrote {
     pub count: usize,
 }
 
-// How the traversal goes on: whether the variable `x` is to be written next, the height of the stack, the unknowns that were met,
-// and where the text so far ends.
+// How the traversal goes on: the variable that is to be written next, if one is, the height of the stack, the unknowns that were met, and
+// where the text so far ends.
 #[derive(Clone, Copy)]
 pub struct Turn {
-    pub going: bool,
-    pub x: Variable,
+    pub next: Option<Variable>,
     pub high: usize,
     pub count: usize,
     pub at: usize,
@@ -67,15 +66,14 @@ fn label(
     write: bool,
 ) -> Turn
     requires { Laid w.old × Logged used × Shown (triples table.now) (log_of used w.old) (pos_of w.old) (cells_of w.old) × Ready (triples table.now) (log_of used w.old) (pos_of w.old) (cells_of w.old) (places_of w.old) (begun_of w.old) (numbers_of w.old) true x.0 high count × AtBound (pos_of w.old) (cells_of w.old) x.0 p }
-    ensures { Turned (triples table.now) (log_of used w.old) (pos_of w.old) (cells_of w.old) (places_of w.old) (begun_of w.old) (numbers_of w.old) out.old true x.0 high count at write (places_of w.new) (begun_of w.new) (numbers_of w.new) out.new result.going result.x.0 result.high result.count result.at × Answered w.old w.new }
+    ensures { Turned (triples table.now) (log_of used w.old) (pos_of w.old) (cells_of w.old) (places_of w.old) (begun_of w.old) (numbers_of w.old) out.old true x.0 high count at write (places_of w.new) (begun_of w.new) (numbers_of w.new) out.new (goes result.next) (comes result.next) result.high result.count result.at × Answered w.old w.new }
 {
     let g = solve_fields::num_of(work_tables::peek(w, used, p + 2));
     let a = answer_emit::name(table, g, out, at, write);
     let v = work_tables::peek(w, used, p + 3);
     if !solve_fields::is_var(v) {
         return Turn {
-            going: false,
-            x: Variable(0),
+            next: None,
             high,
             count,
             at: a,
@@ -84,8 +82,7 @@ fn label(
     let b = answer_emit::byte(out, a, 40, write);
     answer_stack::push(w, high, p, 1);
     Turn {
-        going: true,
-        x: Variable(solve_fields::var_of(v)),
+        next: Some(Variable(solve_fields::var_of(v))),
         high: high + 1,
         count,
         at: b,
@@ -105,15 +102,14 @@ pub fn begin(
     write: bool,
 ) -> Turn
     requires { Laid w.old × Logged used × Shown (triples table.now) (log_of used w.old) (pos_of w.old) (cells_of w.old) × Ready (triples table.now) (log_of used w.old) (pos_of w.old) (cells_of w.old) (places_of w.old) (begun_of w.old) (numbers_of w.old) true x.0 high count }
-    ensures { Turned (triples table.now) (log_of used w.old) (pos_of w.old) (cells_of w.old) (places_of w.old) (begun_of w.old) (numbers_of w.old) out.old true x.0 high count at write (places_of w.new) (begun_of w.new) (numbers_of w.new) out.new result.going result.x.0 result.high result.count result.at × Answered w.old w.new }
+    ensures { Turned (triples table.now) (log_of used w.old) (pos_of w.old) (cells_of w.old) (places_of w.old) (begun_of w.old) (numbers_of w.old) out.old true x.0 high count at write (places_of w.new) (begun_of w.new) (numbers_of w.new) out.new (goes result.next) (comes result.next) result.high result.count result.at × Answered w.old w.new }
 {
     let r = work_cells::find(w, x);
     let c = work_trail::cell_get(w, r.0);
     if c % 4 != 2 {
         let u = unknown(w, r, count, out, at, write);
         return Turn {
-            going: false,
-            x: Variable(0),
+            next: None,
             high,
             count: u.count,
             at: u.at,
@@ -135,7 +131,7 @@ pub fn behind(
     write: bool,
 ) -> Turn
     requires { Laid w.old × Logged used × Shown (triples table.now) (log_of used w.old) (pos_of w.old) (cells_of w.old) × Ready (triples table.now) (log_of used w.old) (pos_of w.old) (cells_of w.old) (places_of w.old) (begun_of w.old) (numbers_of w.old) false 0 high count × (0 < high) }
-    ensures { Turned (triples table.now) (log_of used w.old) (pos_of w.old) (cells_of w.old) (places_of w.old) (begun_of w.old) (numbers_of w.old) out.old false 0 high count at write (places_of w.new) (begun_of w.new) (numbers_of w.new) out.new result.going result.x.0 result.high result.count result.at × Answered w.old w.new }
+    ensures { Turned (triples table.now) (log_of used w.old) (pos_of w.old) (cells_of w.old) (places_of w.old) (begun_of w.old) (numbers_of w.old) out.old false 0 high count at write (places_of w.new) (begun_of w.new) (numbers_of w.new) out.new (goes result.next) (comes result.next) result.high result.count result.at × Answered w.old w.new }
 {
     let i = high - 1;
     let p = answer_stack::place_get(w, i);
@@ -144,8 +140,7 @@ pub fn behind(
     if !solve_fields::is_var(v) {
         let b = answer_emit::byte(out, at, 41, write);
         return Turn {
-            going: false,
-            x: Variable(0),
+            next: None,
             high: i,
             count,
             at: b,
@@ -154,8 +149,7 @@ pub fn behind(
     let b = answer_emit::byte(out, at, 44, write);
     answer_stack::begun_put(w, i, k + 1);
     Turn {
-        going: true,
-        x: Variable(solve_fields::var_of(v)),
+        next: Some(Variable(solve_fields::var_of(v))),
         high,
         count,
         at: b,

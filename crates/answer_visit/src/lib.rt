@@ -34,34 +34,34 @@ fn meet(w: &mut [u8], r: Variable, count: usize) -> usize
 }
 
 // Visits `x`: an unbound class is met, an application whose length is not known is put onto the stack.
-fn begin(w: &mut [u8], x: Variable, high: usize, count: usize) -> Stand
-    requires { Laid w.old × CanBegin (pos_of w.old) (cells_of w.old) (places_of w.old) (begun_of w.old) (numbers_of w.old) (known_of w.old) x.0 high count }
-    ensures { Begun (pos_of w.old) (cells_of w.old) (places_of w.old) (begun_of w.old) (numbers_of w.old) (known_of w.old) x.0 high count (places_of w.new) (begun_of w.new) (numbers_of w.new) (known_of w.new) result.high result.count × Answered w.old w.new }
+fn begin(w: &mut [u8], x: Variable, at: Stand) -> Stand
+    requires { Laid w.old × CanBegin (pos_of w.old) (cells_of w.old) (places_of w.old) (begun_of w.old) (numbers_of w.old) (known_of w.old) x.0 at.high at.count }
+    ensures { Begun (pos_of w.old) (cells_of w.old) (places_of w.old) (begun_of w.old) (numbers_of w.old) (known_of w.old) x.0 at.high at.count (places_of w.new) (begun_of w.new) (numbers_of w.new) (known_of w.new) result.high result.count × Answered w.old w.new }
 {
     let r = work_cells::find(w, x);
     let c = work_trail::cell_get(w, r.0);
     if c % 4 != 2 {
-        let n = meet(w, r, count);
-        return Stand { high, count: n };
+        let n = meet(w, r, at.count);
+        return Stand { count: n, ..at };
     }
     let k = c / 256;
     let e = answer_known::known_get(w, k);
     if e != 0 {
-        return Stand { high, count };
+        return at;
     }
-    answer_stack::push(w, high, k, 0);
+    answer_stack::push(w, at.high, k, 0);
     Stand {
-        high: high + 1,
-        count,
+        high: at.high + 1,
+        ..at
     }
 }
 
 // The next argument of the application on top is visited; if it has none left, its length becomes known.
-fn behind(w: &mut [u8], used: usize, table: &[u8], high: usize, count: usize, m: usize) -> Stand
-    requires { Laid w.old × Logged used × (m < 4294967294) × Shown (triples table.now) (log_of used w.old) (pos_of w.old) (cells_of w.old) × CanTurn (triples table.now) (log_of used w.old) (pos_of w.old) (cells_of w.old) (places_of w.old) (begun_of w.old) (numbers_of w.old) (known_of w.old) high count m × (0 < high) }
-    ensures { Turned (triples table.now) (log_of used w.old) (pos_of w.old) (cells_of w.old) (places_of w.old) (begun_of w.old) (numbers_of w.old) (known_of w.old) high count m (places_of w.new) (begun_of w.new) (numbers_of w.new) (known_of w.new) result.high result.count × Counted w.old w.new }
+fn behind(w: &mut [u8], used: usize, table: &[u8], at: Stand, m: usize) -> Stand
+    requires { Laid w.old × Logged used × (m < 4294967294) × Shown (triples table.now) (log_of used w.old) (pos_of w.old) (cells_of w.old) × CanTurn (triples table.now) (log_of used w.old) (pos_of w.old) (cells_of w.old) (places_of w.old) (begun_of w.old) (numbers_of w.old) (known_of w.old) at.high at.count m × (0 < at.high) }
+    ensures { Turned (triples table.now) (log_of used w.old) (pos_of w.old) (cells_of w.old) (places_of w.old) (begun_of w.old) (numbers_of w.old) (known_of w.old) at.high at.count m (places_of w.new) (begun_of w.new) (numbers_of w.new) (known_of w.new) result.high result.count × Counted w.old w.new }
 {
-    let i = high - 1;
+    let i = at.high - 1;
     let k = answer_stack::place_get(w, i);
     let n = answer_stack::begun_get(w, i);
     let p = work_tables::pos_get(w, k);
@@ -69,25 +69,22 @@ fn behind(w: &mut [u8], used: usize, table: &[u8], high: usize, count: usize, m:
     if !solve_fields::is_var(v) {
         let l = answer_size::application(w, used, table, p, m);
         answer_known::known_put(w, k, l + 1);
-        return Stand { high: i, count };
+        return Stand { high: i, ..at };
     }
     answer_stack::begun_put(w, i, n + 1);
-    begin(w, Variable(solve_fields::var_of(v)), high, count)
+    begin(w, Variable(solve_fields::var_of(v)), at)
 }
 
 // Goes on until the stack is empty. Answers how many unknowns were met.
-fn finish(w: &mut [u8], used: usize, table: &[u8], high: usize, count: usize, m: usize) -> usize
-    requires { Laid w.old × Logged used × (m < 4294967294) × Shown (triples table.now) (log_of used w.old) (pos_of w.old) (cells_of w.old) × CanTurn (triples table.now) (log_of used w.old) (pos_of w.old) (cells_of w.old) (places_of w.old) (begun_of w.old) (numbers_of w.old) (known_of w.old) high count m }
-    ensures { Finished (triples table.now) (log_of used w.old) (pos_of w.old) (cells_of w.old) (places_of w.old) (begun_of w.old) (numbers_of w.old) (known_of w.old) high count m (numbers_of w.new) (known_of w.new) result × Counted w.old w.new }
+fn finish(w: &mut [u8], used: usize, table: &[u8], at: Stand, m: usize) -> usize
+    requires { Laid w.old × Logged used × (m < 4294967294) × Shown (triples table.now) (log_of used w.old) (pos_of w.old) (cells_of w.old) × CanTurn (triples table.now) (log_of used w.old) (pos_of w.old) (cells_of w.old) (places_of w.old) (begun_of w.old) (numbers_of w.old) (known_of w.old) at.high at.count m }
+    ensures { Finished (triples table.now) (log_of used w.old) (pos_of w.old) (cells_of w.old) (places_of w.old) (begun_of w.old) (numbers_of w.old) (known_of w.old) at.high at.count m (numbers_of w.new) (known_of w.new) result × Counted w.old w.new }
 {
-    let mut h = high;
-    let mut c = count;
-    while 0 < h {
-        let t = behind(w, used, table, h, c, m);
-        h = t.high;
-        c = t.count;
+    let mut stand = at;
+    while 0 < stand.high {
+        stand = behind(w, used, table, stand, m);
     }
-    c
+    stand.count
 }
 
 // Visits `x` and all below it, `count` unknowns being met before. Answers how many were met then.
@@ -95,6 +92,6 @@ pub fn visit(w: &mut [u8], used: usize, table: &[u8], x: Variable, count: usize,
     requires { Laid w.old × Logged used × (m < 4294967294) × Shown (triples table.now) (log_of used w.old) (pos_of w.old) (cells_of w.old) × CanVisit (triples table.now) (log_of used w.old) (pos_of w.old) (cells_of w.old) (numbers_of w.old) (known_of w.old) x.0 count m }
     ensures { Visited (triples table.now) (log_of used w.old) (pos_of w.old) (cells_of w.old) (numbers_of w.old) (known_of w.old) x.0 count m (numbers_of w.new) (known_of w.new) result × Counted w.old w.new }
 {
-    let t = begin(w, x, 0, count);
-    finish(w, used, table, t.high, t.count, m)
+    let t = begin(w, x, Stand { high: 0, count });
+    finish(w, used, table, t, m)
 }

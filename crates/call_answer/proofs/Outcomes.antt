@@ -16,12 +16,17 @@ use Rattle.akl.specs.Answers.{Answer, answer, answer_text, numbered, fitted}
 use Rattle.runs.specs.Outcomes.{Outcome, refusal, shown}
 use Rattle.store_form.specs.State.{State, names_of}
 use Rattle.store_words.proofs.Sizes.{size_length}
-use Rattle.store_calls.specs.Outcomes.{slices_short, held, on_held, on_state, answer_done, answer_outcome}
+use Rattle.store_calls.specs.Outcomes.{Called, slices_short, held, on_held, on_state, answer_done, answer_outcome}
 use Rattle.store_calls.specs.Handed.{written}
 use Rattle.store_lent.specs.Lent.{working_bytes}
 use Rattle.step_meant.specs.Deciding.{HoldsState}
 use Rattle.answer_emit.specs.Put.{put, Put}
 use Rattle.answer_emit.proofs.Put.{put_fits}
+use Rattle.refusals.specs.declared.Refusal.{Refusal}
+use Rattle.refusals.specs.Refusals.{number_of}
+use Rattle.std.specs.Prelude.{Err}
+use Rattle.call_slices.specs.Admitted.{Admits}
+use Rattle.call_slices.proofs.Slices.{refused_call}
 use Rattle.call_answer.specs.Called.{answer_told, AnswerTo, state_answer, AnswerOf}
 
 module _ (b : List ℕ) (w n : ℕ) (O : List ℕ) where
@@ -31,13 +36,13 @@ module _ (b : List ℕ) (w n : ℕ) (O : List ℕ) where
   is : {o : Outcome} (O' : List ℕ) (x : ℕ) → o ≡ (answer_outcome most_parts working_bytes b w n (length O)).told → x ≡ answer_told o → O' ≡ written O o → AnswerTo b w n O O' x
   is O' x e p q = record { number = p ∙ ap answer_told e; out = q ∙ ap (written O) e }
 
-  pub to_8 : slices_short most_parts working_bytes b w ≡ true → AnswerTo b w n O O 8
-  unfolding answer_outcome on_state written
-  to_8 e = is O 8 (ap (λ (x : Bool). outcome x (held most_parts b)) (sym e)) refl refl
+  abbrev asked : State → Called
+  asked s = answer_done b (answer (names_of s) s.config.root n (length O))
 
-  pub to_9 : slices_short most_parts working_bytes b w ≡ false → held most_parts b ≡ none → AnswerTo b w n O O 9
-  unfolding answer_outcome on_state written
-  to_9 e h = is O 9 (ap₂ outcome (sym e) (sym h)) refl refl
+  -- 8 and 9
+  pub to_refused : (e : Refusal) → Admits b w (Err e) → AnswerTo b w n O O (number_of e)
+  unfolding answer_outcome written
+  to_refused e a = let r = refused_call b w e a asked in record { number = sym (ap (λ (c : Called). answer_told c.told) r); out = sym (ap (λ (c : Called). written O c.told) r) }
 
   pub to_answer : (O' : List ℕ) (x : ℕ) → slices_short most_parts working_bytes b w ≡ false → (h : HoldsState b) → AnswerOf b n O O' x → AnswerTo b w n O O' x
   unfolding answer_outcome on_state

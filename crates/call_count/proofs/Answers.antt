@@ -1,5 +1,5 @@
 -- The answers to a question for the number of answers; there are no more of them than parts. Assumes nothing.
-use mathlib.Core.Path.{◌≡◌, sym, ap, ap₂, ◌∙◌}
+use mathlib.Core.Path.{◌≡◌, refl, sym, ap, ap₂, ◌∙◌}
 use mathlib.Core.List.{List, ◌∷◌, []}
 use mathlib.Core.Bool.{Bool, true, false}
 use mathlib.Core.Option.{some, none}
@@ -26,14 +26,17 @@ use Rattle.store_lent.specs.Lent.{working_bytes}
 use Rattle.step_meant.specs.Deciding.{HoldsState}
 use Rattle.answer_boxes.specs.Asked.{MeantSome, CountIs}
 use Rattle.call_state.proofs.Answers.{config_meant}
+use Rattle.refusals.specs.declared.Refusal.{Refusal}
+use Rattle.refusals.specs.Refusals.{number_of}
+use Rattle.std.specs.Prelude.{Err}
+use Rattle.call_slices.specs.Admitted.{Admits}
+use Rattle.call_slices.proofs.Slices.{refused_first}
 use Rattle.call_count.specs.Called.{count_told, CountTo}
 
 module _ (b : List ℕ) (w : ℕ) where
-  pub to_8 : slices_short most_parts working_bytes b w ≡ true → CountTo b w 8
-  to_8 e = record { number = ap (λ (x : Bool). count_told x (held most_parts b)) (sym e) }
-
-  pub to_9 : slices_short most_parts working_bytes b w ≡ false → held most_parts b ≡ none → CountTo b w 9
-  to_9 e h = record { number = ap₂ count_told (sym e) (sym h) }
+  -- 8 and 9
+  pub to_refused : (e : Refusal) → Admits b w (Err e) → CountTo b w (number_of e)
+  to_refused e a = record { number = refused_first count_told (λ h. refl) refl b w e a }
 
   pub to_count : (s : State) (r : ℕ) → slices_short most_parts working_bytes b w ≡ false → held most_parts b ≡ some s → r ≡ size (answers s.config.root) → CountTo b w (256 * r)
   to_count s r e h q = record { number = ap (λ (x : ℕ). 256 * x) q ∙ ap₂ count_told (sym e) (sym h) }

@@ -2,25 +2,20 @@
 #![tactic(auto)]
 
 ghost use Rattle.std.specs.Prelude.{length};
+ghost use Rattle.refusals.specs.Refusals.{number_told};
 ghost use Rattle.call_count.specs.Called.{CountTo, CountCalled};
 
+use refusals::Refusal;
+
 // As `akl_count`, but for the working slice afterwards.
-fn asked(store: &[u8], work: &mut [u8]) -> usize
-    ensures { CountTo store.now (length work.old) result }
+fn asked(store: &[u8], work: &mut [u8]) -> Result<usize, Refusal>
+    ensures { CountTo store.now (length work.old) (number_told result) }
 {
-    if store.len() < 245853 {
-        return 8;
-    }
-    if work.len() < 524288 {
-        return 8;
-    }
-    if check_store::formed(store, work) {
-        let n = store_views::config_count(store);
-        let e = 159837 + 3 * n;
-        let c = answer_boxes::count(&store[159837..e], work);
-        return 256 * c;
-    }
-    9
+    call_slices::formed_or_refused(store, work)?;
+    let n = store_views::config_count(store);
+    let e = 159837 + 3 * n;
+    let c = answer_boxes::count(&store[159837..e], work);
+    Ok(256 * c)
 }
 
 // How many answers the configuration has that the store holds. Answers 256 times their number; or the refusal: 8 where a slice is too
@@ -28,7 +23,10 @@ fn asked(store: &[u8], work: &mut [u8]) -> usize
 pub fn akl_count(store: &[u8], work: &mut [u8]) -> usize
     ensures { CountCalled store.now work.old work.new result }
 {
-    let x = asked(store, work);
-    mem_numbers::fill_zero(work);
-    x
+    let done = asked(store, work);
+    work.fill(0);
+    match done {
+        Ok(told) => told,
+        Err(refusal) => refusal.number() as usize,
+    }
 }

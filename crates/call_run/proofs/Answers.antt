@@ -10,7 +10,7 @@ use Rattle.akl.specs.Limits.{most_parts}
 use Rattle.akl.specs.StepsText as akl
 use Rattle.read_tokens.specs.declared.Cursor.{Cursor}
 use Rattle.read_steps.specs.declared.Step.{Step}
-use Rattle.read_steps.specs.declared.Line.TheVariants as line
+use Rattle.std.specs.Prelude as std
 use Rattle.read_steps.specs.Lines.{step, LineRead}
 use Rattle.runs.specs.Outcomes.{accepted}
 use Rattle.store_form.specs.State.{State}
@@ -74,7 +74,7 @@ module _ (t b₀ : List ℕ) (w from n : ℕ) (b : List ℕ) (R : Ran t b₀ w f
   pub ran_small : (k : akl.Step) (x : ℕ) (b' : List ℕ) → StepDone b k x b' → x ≤ 15
   ran_small k x b' d = done_small b R.state R.holds k b' x d
 
-  module _ (g : from < length t) (k : Step) (c : Cursor) (l : LineRead t from (line.At k c)) where
+  module _ (g : from < length t) (k : Step) (c : Cursor) (l : LineRead t from (std.Ok (k, c))) where
     next : (ls : List akl.Step) × (R.left ≡ step k ∷ ls) × Left t c.0 ls
     next = next_left t from R.left R.behind g k c l
 

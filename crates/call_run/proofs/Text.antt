@@ -17,7 +17,7 @@ use Rattle.refusals.specs.Refusals.{number_of}
 use Rattle.read_tokens.specs.declared.Cursor.{Cursor}
 use Rattle.read_tokens.specs.Runs.{size_length}
 use Rattle.read_steps.specs.declared.Step.{Step}
-use Rattle.read_steps.specs.declared.Line.TheVariants as line
+use Rattle.std.specs.Prelude as std
 use Rattle.read_steps.specs.Lines.{step, outcome, LineRead}
 
 -- a refusal is no result, no reading is none
@@ -74,7 +74,7 @@ module _ (t : List ℕ) (from : ℕ) (ks : List akl.Step) (L : Left t from ks) w
         ∙ ap (λ (u : List ℕ). akl.line u >>= λ l. akl.lines k l.1 >>= λ ls. some (l.0 ∷ ls)) (sym (drop-cons t from 0 g))
 
     -- a line that is not as described: there is none in a text that is read
-    pub no_refusal : (f : Refusal) → LineRead t from (line.Refused f) → ⊥
+    pub no_refusal : (f : Refusal) → LineRead t from (std.Err f) → ⊥
     no_refusal f R = go L.turns L.enough L.reads
       where
         go : (k : ℕ) → length t - from < k → akl.lines k (drop from t) ≡ some ks → ⊥
@@ -83,7 +83,7 @@ module _ (t : List ℕ) (from : ℕ) (ks : List akl.Step) (L : Left t from ks) w
             none_is_not ks (sym (turn k ∙ ap (λ (o : Option (akl.Step × List ℕ)). o >>= λ l. akl.lines k l.1 >>= λ ls. some (l.0 ∷ ls)) (outcome_none (akl.line (drop from t)) (number_of f) R.says)) ∙ e)
 
     -- a line's step is the first of those that are left, the others are behind it
-    pub next_left : (s : Step) (c : Cursor) → LineRead t from (line.At s c) → (ls : List akl.Step) × (ks ≡ step s ∷ ls) × Left t c.0 ls
+    pub next_left : (s : Step) (c : Cursor) → LineRead t from (std.Ok (s, c)) → (ls : List akl.Step) × (ks ≡ step s ∷ ls) × Left t c.0 ls
     next_left s c R = go L.turns L.enough L.reads
       where
         rest : (k : ℕ) → length t - from < suc k → (o : Option (List akl.Step)) → akl.lines k (drop c.0 t) ≡ o → (o >>= λ ls. some (step s ∷ ls)) ≡ some ks → (ls : List akl.Step) × (ks ≡ step s ∷ ls) × Left t c.0 ls

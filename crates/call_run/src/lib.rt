@@ -2,13 +2,14 @@
 #![tactic(auto)]
 
 ghost use Rattle.std.specs.Prelude.{length};
+ghost use Rattle.refusals.specs.Refusals.{number_told};
 ghost use Rattle.call_run.specs.Called.{CanRun, RunTo, RunCalled};
 
-use read_steps::{Checked, Line};
 use read_tokens::Cursor;
+use refusals::Refusal;
 use rule_places::Finger;
 
-// Tries the steps of a text that was read, line by line, until one is refused or none is left.
+// Tries the steps of a text that was read, line by line, until one is refused or none is left. Its answer is that of `akl_run`.
 fn tried(steps: &[u8], store: &mut [u8], work: &mut [u8]) -> usize
     requires { CanRun steps.now store.old work.old }
     ensures { RunTo steps.now store.old (length work.old) store.new result }
@@ -17,11 +18,8 @@ fn tried(steps: &[u8], store: &mut [u8], work: &mut [u8]) -> usize
     let mut n: usize = 0;
     let mut u: usize = 2048; // at least the parts that the store's configuration has
     let mut near = Finger { at: 0, before: 0 }; // in its words
-    loop {
-        if steps.len() <= at {
-            return 256 * n;
-        }
-        let Line::At(k, rest) = read_lines::read_line(steps, Cursor(at)) else {
+    while at < steps.len() {
+        let Ok((k, rest)) = read_lines::read_line(steps, Cursor(at)) else {
             return 18; // never: every line of the text was read before
         };
         let done = step_store::step(
@@ -33,36 +31,27 @@ fn tried(steps: &[u8], store: &mut [u8], work: &mut [u8]) -> usize
             k.place,
             k.argument as usize,
         );
-        if done.answer != 0 {
-            return 256 * n + done.answer;
+        match done {
+            Ok(left) => {
+                u = left.parts;
+                near = left.finger;
+            }
+            Err(refusal) => return 256 * n + refusal.number() as usize,
         }
-        u = done.parts;
-        near = done.finger;
         n += 1;
         at = rest.0;
     }
+    256 * n
 }
 
 // As `akl_run`, but for the working slice afterwards.
-fn judged(steps: &[u8], store: &mut [u8], work: &mut [u8]) -> usize
-    ensures { RunTo steps.now store.old (length work.old) store.new result }
+fn judged(steps: &[u8], store: &mut [u8], work: &mut [u8]) -> Result<usize, Refusal>
+    ensures { RunTo steps.now store.old (length work.old) store.new (number_told result) }
 {
-    match read_lines::check(steps) {
-        Checked::Refused(f) => refusals::number(f) as usize,
-        Checked::Steps(_) => {
-            if store.len() < 245853 {
-                return 8;
-            }
-            if work.len() < 524288 {
-                return 8;
-            }
-            if check_store::formed(store, work) {
-                rule_solve::ready(work);
-                return tried(steps, store, work);
-            }
-            9
-        }
-    }
+    read_lines::check(steps)?;
+    call_slices::formed_or_refused(store, work)?;
+    rule_solve::ready(work);
+    Ok(tried(steps, store, work))
 }
 
 // Does the steps of the text one after the other on the state that the store holds, until one is refused. Answers 256 times the number of
@@ -72,7 +61,10 @@ fn judged(steps: &[u8], store: &mut [u8], work: &mut [u8]) -> usize
 pub fn akl_run(steps: &[u8], store: &mut [u8], work: &mut [u8]) -> usize
     ensures { RunCalled steps.now store.old work.old store.new work.new result }
 {
-    let x = judged(steps, store, work);
-    mem_numbers::fill_zero(work);
-    x
+    let done = judged(steps, store, work);
+    work.fill(0);
+    match done {
+        Ok(told) => told,
+        Err(refusal) => refusal.number() as usize,
+    }
 }

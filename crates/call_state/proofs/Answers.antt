@@ -24,26 +24,28 @@ use Rattle.store_lent.specs.Lent.{working_bytes}
 use Rattle.step_meant.specs.Meant.{Meant}
 use Rattle.step_meant.specs.Deciding.{HoldsState}
 use Rattle.answer_boxes.specs.Asked.{MeantSome, StateIs, state_number}
+use Rattle.refusals.specs.declared.Refusal.{Refusal}
+use Rattle.refusals.specs.Refusals.{number_of}
+use Rattle.std.specs.Prelude.{Err}
+use Rattle.call_slices.specs.Admitted.{Admits}
+use Rattle.call_slices.proofs.Slices.{refused_call}
 use Rattle.call_state.specs.Called.{state_told, StateTo}
 
 module _ (b : List ℕ) (w : ℕ) where
   abbrev asked : State → Called
   asked s = called (stands (state s.config.root)) b
 
-  abbrev number_of : Bool → Option State → ℕ
-  number_of short h = state_told (on_held b asked short h).told
+  abbrev told_of : Bool → Option State → ℕ
+  told_of short h = state_told (on_held b asked short h).told
 
-  pub to_8 : slices_short most_parts working_bytes b w ≡ true → StateTo b w 8
-  unfolding state_outcome on_state
-  to_8 e = record { number = ap (λ (x : Bool). number_of x (held most_parts b)) (sym e) }
-
-  pub to_9 : slices_short most_parts working_bytes b w ≡ false → held most_parts b ≡ none → StateTo b w 9
-  unfolding state_outcome on_state
-  to_9 e h = record { number = ap₂ number_of (sym e) (sym h) }
+  -- 8 and 9
+  pub to_refused : (e : Refusal) → Admits b w (Err e) → StateTo b w (number_of e)
+  unfolding state_outcome
+  to_refused e a = record { number = sym (ap (λ (c : Called). state_told c.told) (refused_call b w e a asked)) }
 
   pub to_state : (s : State) (r : ℕ) → slices_short most_parts working_bytes b w ≡ false → held most_parts b ≡ some s → r ≡ state_number (state s.config.root) → StateTo b w (256 * r)
   unfolding state_outcome on_state
-  to_state s r e h q = record { number = ap (λ (x : ℕ). 256 * x) q ∙ ap₂ number_of (sym e) (sym h) }
+  to_state s r e h q = record { number = ap (λ (x : ℕ). 256 * x) q ∙ ap₂ told_of (sym e) (sym h) }
 
 -- the words of the configuration mean the state that the store holds
 pub config_meant : (b : List ℕ) (n : ℕ) (s : State) → n ≡ words_in b → held most_parts b ≡ some s → Meant (words (cut 159837 (159837 + 3 * n) b)) (rules_words s) s

@@ -9,14 +9,17 @@ use Rattle.akl.specs.StepsText.{Step}
 use Rattle.runs.specs.Outcomes.{refusal}
 use Rattle.store_form.specs.State.{State}
 use Rattle.store_steps.specs.After.{state_after}
-use Rattle.store_calls.specs.Outcomes.{Called, called, slices_short, step_done, step_outcome}
+use Rattle.store_calls.specs.Outcomes.{Called, called, step_done, step_outcome}
 use Rattle.store_calls.specs.Handed.{returned}
-use Rattle.store_calls.proofs.Any.{short_first, none_held, some_held}
+use Rattle.store_calls.proofs.Any.{some_held}
 use Rattle.store_lent.specs.Lent.{working_bytes}
-use Rattle.check_store.specs.Store.{Formed}
-use Rattle.step_meant.specs.Deciding.{outcome_of, StepDone, HoldsState}
+use Rattle.step_meant.specs.Deciding.{outcome_of, StepDone}
 use Rattle.call_step.specs.Called.{StepTo}
-use Rattle.call_slices.proofs.Slices.{store_short, working_short, long_enough, none_formed}
+use Rattle.refusals.specs.declared.Refusal.{Refusal}
+use Rattle.refusals.specs.Refusals.{number_of}
+use Rattle.std.specs.Prelude.{Err}
+use Rattle.call_slices.specs.Admitted.{Admits}
+use Rattle.call_slices.proofs.Slices.{GoesOn, refused_call}
 
 -- the number of what a step hands back
 pub returns_number : (x : ℕ) → returned (outcome_of x) ≡ x
@@ -37,23 +40,14 @@ module _ (b : List ℕ) (w : ℕ) (k : Step) where
       let r : all ≡ called (outcome_of x) b' = q ∙ e in
       record { refusal = sym (ap (λ (c : Called). returned c.told) r ∙ returns_number x); store = sym (ap (λ (c : Called). c.store) r) }
 
-  too_short : slices_short most_parts working_bytes b w ≡ true → StepTo b w k b 8
+  -- 8 and 9
+  pub to_refused : (e : Refusal) → Admits b w (Err e) → StepTo b w k b (number_of e)
+  unfolding step_outcome returned
+  to_refused e a =
+      let r : all ≡ called (refusal (number_of e)) b = refused_call b w e a done_with in
+      record { refusal = sym (ap (λ (c : Called). returned c.told) r); store = sym (ap (λ (c : Called). c.store) r) }
+
+  -- the step is done on the state that the store holds
+  pub done : (b' : List ℕ) (x : ℕ) → GoesOn b w → StepDone b k x b' → StepTo b w k b' x
   unfolding step_outcome
-  too_short e = of_outcome (called (refusal 8) b) 8 b refl (short_first most_parts working_bytes b w done_with e)
-
-  pub short_store : length b < 245853 → StepTo b w k b 8
-  short_store h = too_short (store_short b w h)
-
-  pub short_working : 245853 ≤ length b → w < 524288 → StepTo b w k b 8
-  short_working h g = too_short (working_short b w h g)
-
-  module _ (h : 245853 ≤ length b) (g : 524288 ≤ w) where
-    -- the store holds no state
-    pub not_held : (t : Bool) → t ≡ false → Formed b t → StepTo b w k b 9
-    unfolding step_outcome
-    not_held t e f = of_outcome (called (refusal 9) b) 9 b refl (none_held most_parts working_bytes b w done_with (long_enough b w h g) (none_formed b t e f))
-
-    -- the step is done on the state that it holds
-    pub done : (b' : List ℕ) (x : ℕ) → HoldsState b → StepDone b k x b' → StepTo b w k b' x
-    unfolding step_outcome
-    done b' x s d = of_outcome (done_with s.state) x b' (d.right s.state s.holds) (some_held most_parts working_bytes b w done_with (long_enough b w h g) s.state s.holds)
+  done b' x g d = of_outcome (done_with g.state.state) x b' (d.right g.state.state g.state.holds) (some_held most_parts working_bytes b w done_with g.long g.state.state g.state.holds)

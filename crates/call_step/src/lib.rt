@@ -2,30 +2,30 @@
 #![tactic(auto)]
 
 ghost use Rattle.std.specs.Prelude.{length};
+ghost use Rattle.refusals.specs.Refusals.{refused_with};
 ghost use Rattle.step_meant.specs.Deciding.{step_of};
 ghost use Rattle.call_step.specs.Called.{StepTo, StepCalled};
 
 use read_steps::Place;
+use refusals::Refusal;
 use rule_places::Finger;
 
 // As `akl_step`, but for the working slice afterwards.
-fn judged(store: &mut [u8], work: &mut [u8], rule: usize, place: Place, argument: usize) -> usize
-    ensures { StepTo store.old (length work.old) (step_of rule place.0 argument) store.new result }
+fn judged(
+    store: &mut [u8],
+    work: &mut [u8],
+    rule: usize,
+    place: Place,
+    argument: usize,
+) -> Result<(), Refusal>
+    ensures { StepTo store.old (length work.old) (step_of rule place.0 argument) store.new (refused_with result) }
 {
-    if store.len() < 245853 {
-        return 8; // the store
-    }
-    if work.len() < 524288 {
-        return 8;
-    }
-    if check_store::formed(store, work) {
-        rule_solve::ready(work);
-        let first = Finger { at: 0, before: 0 };
-        // any state that is held has at most 2,048 parts
-        let done = step_store::step(store, work, 2048, first, rule, place, argument);
-        return done.answer;
-    }
-    9
+    call_slices::formed_or_refused(store, work)?;
+    rule_solve::ready(work);
+    let first = Finger { at: 0, before: 0 };
+    // any state that is held has at most 2,048 parts
+    step_store::step(store, work, 2048, first, rule, place, argument)?;
+    Ok(())
 }
 
 // Does the step on the state that the store holds. Answers the refusal, or 0: 8 where a slice is too short, 9 where the store holds no
@@ -40,7 +40,10 @@ pub fn akl_step(
 ) -> usize
     ensures { StepCalled store.old work.old (step_of rule place argument) store.new work.new result }
 {
-    let x = judged(store, work, rule, Place(place as u64), argument);
-    mem_numbers::fill_zero(work);
-    x
+    let done = judged(store, work, rule, Place(place as u64), argument);
+    work.fill(0);
+    match done {
+        Ok(()) => 0,
+        Err(refusal) => refusal.number() as usize,
+    }
 }

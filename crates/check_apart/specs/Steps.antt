@@ -6,9 +6,8 @@ use Rattle.std.proofs.Common.{ap, ap₂, sym, ◌∙◌, subst, arith, lt-ltb, l
 use Rattle.std.proofs.Math.Decide.{ℕ_discrete}
 use Rattle.mem_numbers.specs.Stored.{Stored, stored_same, stored_other}
 use Rattle.mem_words.specs.declared.Word.{Word}
-use Rattle.mem_words.specs.declared.Word.TheVariants.{End, Free, Level, Num, Place, Inner, Bad}
+use Rattle.mem_words.specs.declared.Word.TheVariants.{End, Free, Bad}
 use Rattle.mem_words.specs.Words.{Read}
-use Rattle.check_words.specs.Frees.{is_and, is_locals}
 use Rattle.check_words.specs.Passes.{drop_word, drop_end, goes_on, stops}
 use Rattle.check_words.specs.Apart.{Open, new, widen, saw, closed, names, opened, local_apart, local_after, word_apart, open_after, apart_from, apart_passed}
 use Rattle.check_vartables.specs.Stacks.{tops, Rising, tops_same, rising_pushed, rising_on}

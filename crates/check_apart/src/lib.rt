@@ -14,25 +14,14 @@ ghost use Rattle.check_apart.specs.Next.{Look, Ready, Next, CanOpen, Opened};
 
 use mem_words::Word;
 
-// What a word comes to: locals interfere, or so many brackets are open behind it.
-#[derive(Clone, Copy)]
-pub enum Went {
-    Refused,
-    On(usize),
-}
-
 // Whether the word opens an and-box or its locals.
 fn strict(w: Word) -> bool
     ensures { result ≡ strict_word w }
 {
     match w {
-        Word::End => false,
-        Word::Free(_) => false,
-        Word::Level(_) => false,
-        Word::Num(_) => false,
         Word::Place(k) => check_kinds::boxes(k),
         Word::Inner(s) => check_kinds::lists(s),
-        Word::Bad => false,
+        _ => false,
     }
 }
 
@@ -41,13 +30,8 @@ fn naming(w: Word) -> bool
     ensures { result ≡ naming_word w }
 {
     match w {
-        Word::End => false,
-        Word::Free(_) => false,
-        Word::Level(_) => false,
-        Word::Num(_) => false,
-        Word::Place(_) => false,
         Word::Inner(s) => check_kinds::lists(s),
-        Word::Bad => false,
+        _ => false,
     }
 }
 
@@ -56,6 +40,7 @@ fn earlier(work: &[u8], k: usize, v: usize) -> usize
     requires { Laid work.now × (k ≤ 28672) × Ordered (stack_of work.now) k }
     ensures { Before (stack_of work.now) k v result }
 {
+    // A binary search by hand: the stack's numbers lie two bytes each among other tables, and no slice of them is there to be searched.
     let mut lo = 0;
     let mut hi = k;
     while lo < hi {
@@ -96,20 +81,20 @@ fn inside_locals(ws: &[u8], work: &[u8], k: usize) -> bool
     naming(w)
 }
 
-// The variable `x` is the word at `i`.
-fn variable(ws: &[u8], work: &mut [u8], i: usize, k: usize, x: usize) -> Went
+// The variable `x` is the word at `i`: how many brackets are open behind it, or none where locals interfere.
+fn variable(ws: &[u8], work: &mut [u8], i: usize, k: usize, x: usize) -> Option<usize>
     requires { Ready (words ws.now) work.old k i × Read (words ws.now) i (Word.Free x) }
     ensures { Next (words ws.now) work.old work.new i result }
 {
     if !inside_locals(ws, work, k) {
-        return Went::On(k);
+        return Some(k);
     }
     let v = check_vartables::name_get(work, x);
     if !agrees(ws, work, k, v) {
-        return Went::Refused;
+        return None;
     }
     check_vartables::name_put(work, x, i + 1);
-    Went::On(k)
+    Some(k)
 }
 
 // A bracket opens at `i`.
@@ -121,24 +106,24 @@ fn open_bracket(work: &mut [u8], i: usize, k: usize) -> usize
     k + 1
 }
 
-// The word at `i` is `w`.
-fn step(ws: &[u8], work: &mut [u8], i: usize, k: usize, w: Word) -> Went
+// The word at `i` is `w`: how many brackets are open behind it, or none where locals interfere.
+fn step(ws: &[u8], work: &mut [u8], i: usize, k: usize, w: Word) -> Option<usize>
     requires { Ready (words ws.now) work.old k i × Read (words ws.now) i w }
     ensures { Next (words ws.now) work.old work.new i result }
 {
     match w {
         Word::End => {
             if k == 0 {
-                return Went::On(0);
+                return Some(0);
             }
-            Went::On(k - 1)
+            Some(k - 1)
         }
         Word::Free(x) => variable(ws, work, i, k, x),
-        Word::Level(_) => Went::On(k),
-        Word::Num(_) => Went::On(k),
-        Word::Place(_) => Went::On(open_bracket(work, i, k)),
-        Word::Inner(_) => Went::On(open_bracket(work, i, k)),
-        Word::Bad => Went::On(k),
+        Word::Level(_) => Some(k),
+        Word::Num(_) => Some(k),
+        Word::Place(_) => Some(open_bracket(work, i, k)),
+        Word::Inner(_) => Some(open_bracket(work, i, k)),
+        Word::Bad => Some(k),
     }
 }
 
@@ -149,19 +134,12 @@ fn walk(ws: &[u8], work: &mut [u8]) -> bool
 {
     let n = mem_words::count(ws);
     let mut k = 0;
-    let mut i = 0;
-    while i < n {
+    for i in 0..n {
         let w = mem_get::get(ws, i);
-        let g = step(ws, work, i, k, w);
-        i += 1;
-        match g {
-            Went::Refused => {
-                return false;
-            }
-            Went::On(m) => {
-                k = m;
-            }
-        }
+        let Some(open) = step(ws, work, i, k, w) else {
+            return false;
+        };
+        k = open;
     }
     true
 }

@@ -1,9 +1,10 @@
 -- Bits of numbers, and a definition that is marked in the table of arities. Assumes nothing.
-use Rattle.std.specs.Prelude.{◌≡◌, refl, List, Bool, true, false, ◌&&◌, ◌||◌, ℕ, zero, suc, ◌+◌, ◌*◌, ◌/◌, ◌≤◌, ◌<◌, leb, ltb, eqb, length}
+use Rattle.std.specs.Prelude.{◌≡◌, refl, List, Bool, true, false, ◌&&◌, ◌||◌, ℕ, zero, suc, ◌+◌, ◌*◌, ◌/◌, ◌^◌, ◌≤◌, ◌<◌, leb, ltb, eqb, length}
 use Rattle.std.proofs.Common.{ap, ap₂, sym, ◌∙◌, subst, arith, lt-ltb, le-leb, eq-eqb, ne_eqb}
 use Rattle.std.proofs.Math.Decide.{ℕ_discrete}
 use Rattle.std.proofs.Math.ListN.{get_or}
 use Rattle.std.proofs.lemmas.Bool.{eqb-false}
+use Rattle.std.proofs.lemmas.Nat.{pow-add}
 use Rattle.mem_numbers.specs.Stored.{Stored, stored_same, stored_other}
 use Rattle.check_tables.specs.Tables.{bit, def_of}
 
@@ -11,21 +12,10 @@ unfoldable pub power : ℕ → ℕ
 power zero = 1
 power (suc k) = 2 * power k
 
-pub powered : {k j v : ℕ} → k ≡ j → v ≡ power j → v ≡ power k
-powered e p = p ∙ ap power (sym e)
-
-pub power_rest : (k : ℕ) → k ≤ 8 → (k ≡ 0 → ⊥) → (k ≡ 1 → ⊥) → (k ≡ 2 → ⊥) → (k ≡ 3 → ⊥) → (k ≡ 4 → ⊥) → (k ≡ 5 → ⊥) → (k ≡ 6 → ⊥) → (k ≡ 7 → ⊥) → 256 ≡ power k
+pub power_is : (k : ℕ) → 2 ^ k ≡ power k
 unfolding power
-power_rest zero h n0 n1 n2 n3 n4 n5 n6 n7 = absurd (n0 refl)
-power_rest (suc zero) h n0 n1 n2 n3 n4 n5 n6 n7 = absurd (n1 refl)
-power_rest (suc (suc zero)) h n0 n1 n2 n3 n4 n5 n6 n7 = absurd (n2 refl)
-power_rest (suc (suc (suc zero))) h n0 n1 n2 n3 n4 n5 n6 n7 = absurd (n3 refl)
-power_rest (suc (suc (suc (suc zero)))) h n0 n1 n2 n3 n4 n5 n6 n7 = absurd (n4 refl)
-power_rest (suc (suc (suc (suc (suc zero))))) h n0 n1 n2 n3 n4 n5 n6 n7 = absurd (n5 refl)
-power_rest (suc (suc (suc (suc (suc (suc zero)))))) h n0 n1 n2 n3 n4 n5 n6 n7 = absurd (n6 refl)
-power_rest (suc (suc (suc (suc (suc (suc (suc zero))))))) h n0 n1 n2 n3 n4 n5 n6 n7 = absurd (n7 refl)
-power_rest (suc (suc (suc (suc (suc (suc (suc (suc zero)))))))) h n0 n1 n2 n3 n4 n5 n6 n7 = refl
-power_rest (suc (suc (suc (suc (suc (suc (suc (suc (suc k))))))))) h n0 n1 n2 n3 n4 n5 n6 n7 = absurd (omega arith)
+power_is zero = refl
+power_is (suc k) = let e : suc k ≡ 1 + k = omega arith in ap (λ (n : ℕ). 2 ^ n) e ∙ pow-add 2 1 k ∙ ap (λ (n : ℕ). 2 * n) (power_is k)
 
 bit_small : (k a : ℕ) → bit k a < 2
 unfolding bit

@@ -11,17 +11,7 @@ fn power(k: usize) -> usize
     requires { k ≤ 8 }
     ensures { result ≡ power k }
 {
-    match k {
-        0 => 1,
-        1 => 2,
-        2 => 4,
-        3 => 8,
-        4 => 16,
-        5 => 32,
-        6 => 64,
-        7 => 128,
-        _ => 256,
-    }
+    1 << k
 }
 
 // Marks a definition of the name `p` with `k` parameters, `c` having been read before. False if there is none to be marked: no
@@ -44,8 +34,8 @@ pub fn define(w: &mut [u8], m: usize, p: usize, k: usize, c: usize) -> bool
     if again {
         return false;
     }
-    let a = mem_parts::get2(w, 20992, 61970, p);
+    let a = mem_parts::get::<2>(w, 20992, 61970, p);
     let q = power(k);
-    mem_parts::put2(w, 20992, 61970, p, a + q);
+    mem_parts::put::<2>(w, 20992, 61970, p, a + q);
     true
 }

@@ -15,14 +15,14 @@ fn walk(cells: &[u8], w: &mut [u8], p: usize) -> bool
     ensures { Walks (triples cells.now) p (stamps_of w.new) result × Stamped w.old w.new }
 {
     let stamp = p + 1;
-    let mut q = mem_parts::get2(w, 65536, 106516, p);
+    let mut q = mem_parts::get::<2>(w, 65536, 106516, p);
     while q != 0 {
-        let x = mem_numbers::wide(read_nodes::byte_of(cells, q));
-        if mem_parts::get2(w, 147496, 148008, x) == stamp {
+        let x = usize::from(read_nodes::byte_of(cells, q));
+        if mem_parts::get::<2>(w, 147496, 148008, x) == stamp {
             return false;
         }
-        mem_parts::put2(w, 147496, 148008, x, stamp);
-        q = mem_parts::get2(w, 106516, 147496, q);
+        mem_parts::put::<2>(w, 147496, 148008, x, stamp);
+        q = mem_parts::get::<2>(w, 106516, 147496, q);
     }
     true
 }
@@ -32,13 +32,11 @@ fn walk_all(cells: &[u8], w: &mut [u8]) -> bool
     requires { Laid w.old × Nodes (triples cells.now) × Linked (triples cells.now) (heads_of w.old) (nexts_of w.old) (length (triples cells.now)) × NoStamps (stamps_of w.old) }
     ensures { Decides (Apart (triples cells.now)) result × Stamped w.old w.new }
 {
-    let n = mem_numbers::triple_count(cells);
-    let mut p = 0;
-    while p < n {
+    let n = mem_numbers::count::<3>(cells);
+    for p in 0..n {
         if !walk(cells, w, p) {
             return false;
         }
-        p += 1;
     }
     true
 }

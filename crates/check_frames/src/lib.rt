@@ -15,44 +15,28 @@ fn numbered(b: usize, n: usize, d: usize) -> usize
     b + 16 * d + 1024 * n
 }
 
-// The number of a frame that may be left behind.
+// The number of a frame that may be left behind: the stack lies in the working slice, which holds numbers alone.
+#[tactic(auto, unfolding(check_shapes::specs::Bounds::frame_number))]
 fn pack(x: Frame) -> usize
     requires { Left x }
     ensures { result ≡ frame_number x }
 {
     match x {
-        Frame::Close => 0,
-        Frame::Var2(_) => 0,
-        Frame::Var1(_) => 0,
-        Frame::AppVar(_) => 0,
-        Frame::AppNum(_) => 0,
-        Frame::Args(_, _) => 0,
-        Frame::CallNum(_) => 0,
-        Frame::CallArgs(_, _, _) => 0,
         Frame::One(n, d) => numbered(1, n, d),
-        Frame::Comp2(_, _) => 0,
-        Frame::Clause2(_, _) => 0,
-        Frame::HideNum(_, _) => 0,
-        Frame::ClauseNum(_, _) => 0,
-        Frame::Clauses1(_, _) => 0,
         Frame::Clauses(n, d) => numbered(2, n, d),
         Frame::Head => 3,
-        Frame::Arity => 0,
-        Frame::Body(_) => 0,
-        Frame::Root => 0,
         Frame::Done => 4,
         Frame::Goals => 5,
-        Frame::AndLocals => 0,
         Frame::AndStore => 6,
         Frame::Members => 7,
-        Frame::Locals => 0,
         Frame::Constraints => 8,
         Frame::Guards => 9,
-        Frame::Guard => 0,
+        _ => 0,
     }
 }
 
 // The frame of a kind, with `n` variables bound and depth `d` left.
+#[tactic(auto, unfolding(check_shapes::specs::Bounds::frame_of), using(crate::specs::Stack::frame_rest))]
 fn of_kind(k: usize, d: usize, n: usize) -> Frame
     ensures { result ≡ frame_of k d n }
 {
@@ -83,7 +67,7 @@ pub fn push(w: &mut [u8], h: usize, x: Frame)
     ensures { Pushed w.old h x w.new }
 {
     let v = pack(x);
-    mem_parts::put4(w, 65536, 262144, h, v);
+    mem_parts::put::<4>(w, 65536, 262144, h, v);
 }
 
 // The frame above `h` others.
@@ -91,6 +75,6 @@ pub fn top(w: &[u8], h: usize) -> Frame
     requires { CanTop w.now h }
     ensures { Topped w.now h result }
 {
-    let v = mem_parts::get4(w, 65536, 262144, h);
+    let v = mem_parts::get::<4>(w, 65536, 262144, h);
     unpack(v)
 }

@@ -29,32 +29,32 @@ fn numbers(h: &[u8], parts: usize) -> Heading
     requires { (length (triples h.now) ≡ 6) × (parts ≤ 65536) }
     ensures { Headed parts (triples h.now) result }
 {
-    if mem_numbers::triple_get(h, 0) != 2 {
+    if mem_numbers::get::<3>(h, 0) != 2 {
         return Heading::Wrong;
     }
-    let nodes = mem_numbers::triple_get(h, 1);
+    let nodes = mem_numbers::get::<3>(h, 1);
     if nodes == 0 {
         return Heading::Wrong;
     }
     if nodes > 20489 {
         return Heading::Wrong;
     }
-    let rules = mem_numbers::triple_get(h, 2);
+    let rules = mem_numbers::get::<3>(h, 2);
     if rules > 40960 {
         return Heading::Wrong;
     }
     if nodes + rules > 53257 {
         return Heading::Wrong;
     }
-    let variables = mem_numbers::triple_get(h, 3);
+    let variables = mem_numbers::get::<3>(h, 3);
     if variables > 16 {
         return Heading::Wrong;
     }
-    let words = mem_numbers::triple_get(h, 4);
+    let words = mem_numbers::get::<3>(h, 4);
     if words > 14 * parts {
         return Heading::Wrong;
     }
-    let next = mem_numbers::triple_get(h, 5);
+    let next = mem_numbers::get::<3>(h, 5);
     if next >= 65536 {
         return Heading::Wrong;
     }

@@ -1,5 +1,5 @@
 -- The heads of a program's definitions, found in its words and marked in the table of arities. Assumes nothing.
-use Rattle.std.specs.Prelude.{◌≡◌, Bool, false, ◌&&◌, ◌||◌, length, get_or}
+use Rattle.std.specs.Prelude.{◌≡◌, Option, None, Some, Bool, false, ◌&&◌, ◌||◌, length, get_or}
 use Rattle.std.proofs.Math.Path.{refl, ap, ap₂, sym}
 use Rattle.std.proofs.Common.{◌∙◌, subst, add-one, arith, drop-cons}
 use mathlib.Core.List.{List, [], ◌∷◌}
@@ -9,23 +9,32 @@ use Rattle.std.proofs.Math.Dec.{leb, ltb, eqb}
 use Rattle.std.proofs.Math.ListN.{drop, drop_of_length-le}
 use Rattle.akl.specs.Base.{any, size}
 use Rattle.mem_words.specs.declared.Word.{Word}
-use Rattle.mem_words.specs.declared.Word.TheVariants.{Num, Bad}
+use Rattle.mem_words.specs.declared.Word.TheVariants.{End, Free, Level, Num, Place, Inner, Bad}
 use Rattle.mem_numbers.specs.Numbers.{shorts, zero_shorts}
 use Rattle.mem_parts.specs.Parts.{cut, Outside, outside_then, Zeroed}
 use Rattle.check_shapes.specs.Passed.{Headed, heads_from, heads, listed, heads_pass}
 use Rattle.check_tables.specs.Tables.{kinds_of, arities_of, Tabled, bit, pred_of, def_of, tabled_after, kinds_before}
 use Rattle.check_defines.specs.Defining.{fresh, Defines}
 
--- r is the number that a word is, or 65,536 where it is none
-pub record Numbered (t : Word) (r : ℕ) : Type 0 where
-  pub num : r < 65536 → t ≡ Num r
-  pub other : 65536 ≤ r → (was : Bool) (p : ℕ) (l : List Word) → heads_from was p (t ∷ l) ≡ heads_from false 0 l
+-- a word that is no number begins anew
+pub is_other : (t : Word) → ((v : ℕ) → t ≡ Num v → ⊥) → (was : Bool) (p : ℕ) (l : List Word) → heads_from was p (t ∷ l) ≡ heads_from false 0 l
+unfolding heads_from
+is_other End n was p l = refl
+is_other (Free x) n was p l = refl
+is_other (Level x) n was p l = refl
+is_other (Num v) n was p l = absurd (n v refl)
+is_other (Place k) n was p l = refl
+is_other (Inner s) n was p l = refl
+is_other Bad n was p l = refl
 
-pub a_number : {t : Word} {v : ℕ} → t ≡ Num v → v < 65536 → Numbered t v
-a_number e h = record { num = λ b. e; other = λ b. absurd (omega (arith, h, b)) }
+-- whether the word before was a number, and which
+abbrev pub was_number : Option ℕ → Bool
+was_number None = false
+was_number (Some p) = true
 
-pub no_number : {t u : Word} → t ≡ u → ((was : Bool) (p : ℕ) (l : List Word) → heads_from was p (u ∷ l) ≡ heads_from false 0 l) → Numbered t 65536
-no_number {t} e k = record { num = λ b. absurd (omega (arith, b)); other = λ b was p l. ap (λ (z : Word). heads_from was p (z ∷ l)) e ∙ k was p l }
+abbrev pub number_before : Option ℕ → ℕ
+number_before None = 0
+number_before (Some p) = p
 
 -- what was found, and what is marked where all of it passes
 pub record Filled (L : List ℕ) (m : ℕ) (W : List Word) (X : List ℕ) (r : Bool) : Type 0 where
@@ -89,6 +98,17 @@ module _ (L : List ℕ) (m : ℕ) (W : List Word) where
     all = λ q j. refl;
   }
 
+  -- the word before was the number p
+  pub filling_named : {X : List ℕ} {i c : ℕ} (o : Option ℕ) (p : ℕ) → o ≡ Some p → Filling L m W X i c (was_number o) (number_before o) → Filling L m W X i c true p
+  filling_named {X} {i} {c} o p e F = subst (λ (z : Option ℕ). Filling L m W X i c (was_number z) (number_before z)) e F
+
+  -- the same of what is equal
+  pub filling_as : {X Y : List ℕ} {i c d : ℕ} {o q : Option ℕ} → Y ≡ X → d ≡ c → q ≡ o → Filling L m W X i c (was_number o) (number_before o) → Filling L m W Y i d (was_number q) (number_before q)
+  filling_as {X} {Y} {i} {c} {d} {o} {q} e f g F =
+      subst (λ (z : List ℕ). Filling L m W z i d (was_number q) (number_before q)) (sym e)
+      (subst (λ (z : ℕ). Filling L m W X i z (was_number q) (number_before q)) (sym f)
+      (subst (λ (z : Option ℕ). Filling L m W X i c (was_number z) (number_before z)) (sym g) F))
+
   module _ (X : List ℕ) (i c : ℕ) (was : Bool) (p : ℕ) (F : Filling L m W X i c was p) where
     pub tables_now : Tabled X m
     tables_now = tabled_after F.can.tables F.rest
@@ -111,18 +131,18 @@ module _ (L : List ℕ) (m : ℕ) (W : List Word) where
       all = λ q j. ap (λ (l : List Headed). listed F.seen q j || listed l q j) (sym e) ∙ F.all q j;
     }
 
-    pub filling_other : (t : Word) (k : ℕ) → i < length W → t ≡ get_or W i Bad → Numbered t k → 65536 ≤ k → Filling L m W X (i + 1) c false 0
-    filling_other t k b e n h = goes_on b false 0 (next t b e ∙ n.other h was p (drop (i + 1) W))
+    pub filling_other : (t : Word) → i < length W → t ≡ get_or W i Bad → ((v : ℕ) → t ≡ Num v → ⊥) → Filling L m W X (i + 1) c false 0
+    filling_other t b e n = goes_on b false 0 (next t b e ∙ is_other t n was p (drop (i + 1) W))
 
-    pub filling_first : (t : Word) (k : ℕ) → i < length W → t ≡ get_or W i Bad → Numbered t k → k < 65536 → was ≡ false → Filling L m W X (i + 1) c true k
+    pub filling_first : (t : Word) (k : ℕ) → i < length W → t ≡ get_or W i Bad → t ≡ Num k → was ≡ false → Filling L m W X (i + 1) c true k
     unfolding heads_from
-    filling_first t k b e n h f =
-        goes_on b true k (next t b e ∙ ap₂ (λ (x : Bool) (u : Word). heads_from x p (u ∷ drop (i + 1) W)) f (n.num h))
+    filling_first t k b e n f =
+        goes_on b true k (next t b e ∙ ap₂ (λ (x : Bool) (u : Word). heads_from x p (u ∷ drop (i + 1) W)) f n)
 
-    module _ (t : Word) (k : ℕ) (b : i < length W) (e : t ≡ get_or W i Bad) (n : Numbered t k) (h : k < 65536) (f : was ≡ true) (Y : List ℕ) (r : Bool) (D : Defines X m p k c Y r) where
+    module _ (t : Word) (k : ℕ) (b : i < length W) (e : t ≡ get_or W i Bad) (n : t ≡ Num k) (f : was ≡ true) (Y : List ℕ) (r : Bool) (D : Defines X m p k c Y r) where
       found : heads_from was p (drop i W) ≡ (p, k) ∷ heads_from true k (drop (i + 1) W)
       unfolding heads_from
-      found = next t b e ∙ ap₂ (λ (x : Bool) (u : Word). heads_from x p (u ∷ drop (i + 1) W)) f (n.num h)
+      found = next t b e ∙ ap₂ (λ (x : Bool) (u : Word). heads_from x p (u ∷ drop (i + 1) W)) f n
 
       -- what the test says of the heads seen
       tests : Bool
@@ -147,7 +167,7 @@ module _ (L : List ℕ) (m : ℕ) (W : List Word) where
         rest = outside_then F.rest D.rest;
       }
 
-      filling_head : r ≡ true → Filling L m W Y (i + 1) (c + 1) true k
+      pub filling_head : r ≡ true → Filling L m W Y (i + 1) (c + 1) true k
       unfolding size
       filling_head q =
           let z : size ((p, k) ∷ F.seen) ≡ c + 1 = ap suc F.count ∙ sym (add-one c) in
@@ -167,10 +187,6 @@ module _ (L : List ℕ) (m : ℕ) (W : List Word) where
                 ∙ ap (λ (l : List Headed). listed F.seen s j || listed l s j) (sym found)
                 ∙ F.all s j;
           }
-
-      -- `was` stays as it is
-      pub filling_again : r ≡ true → Filling L m W Y (i + 1) (c + 1) was k
-      filling_again q = subst (λ (v : Bool). Filling L m W Y (i + 1) (c + 1) v k) (sym f) (filling_head q)
 
     pub filling_end : length W ≤ i → Filled L m W X true
     unfolding heads_from heads_pass

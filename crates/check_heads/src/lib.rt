@@ -1,26 +1,10 @@
 // The heads of a program's definitions, found in its words and marked in the table of arities.
 #![tactic(auto)]
 
-ghost use Rattle.mem_words.specs.Words.{words, Small};
-ghost use Rattle.check_heads.specs.Filling.{Numbered, CanFill, CanMark, Filled};
+ghost use Rattle.mem_words.specs.Words.{words};
+ghost use Rattle.check_heads.specs.Filling.{CanFill, CanMark, Filled};
 
 use mem_words::Word;
-
-// The number that the word `t` is, or 65,536.
-fn number(t: Word) -> usize
-    requires { Small t }
-    ensures { Numbered t result }
-{
-    match t {
-        Word::End => 65536,
-        Word::Free(_) => 65536,
-        Word::Level(_) => 65536,
-        Word::Num(v) => v,
-        Word::Place(_) => 65536,
-        Word::Inner(_) => 65536,
-        Word::Bad => 65536,
-    }
-}
 
 // Marks the heads of the words `b`, in a table without definitions. False if one does not pass.
 fn each(w: &mut [u8], b: &[u8], m: usize) -> bool
@@ -28,29 +12,23 @@ fn each(w: &mut [u8], b: &[u8], m: usize) -> bool
     ensures { Filled w.old m (words b.now) w.new result }
 {
     let n = mem_words::count(b);
-    let mut i = 0;
     let mut c = 0;
-    let mut was = false;
-    let mut p = 0;
-    while i < n {
-        let t = mem_get::get(b, i);
-        i += 1;
-        let k = number(t);
-        if k < 65536 {
-            if was {
-                let r = check_defines::define(w, m, p, k, c);
-                if !r {
-                    return false;
+    // the number that the word before was, if it was one
+    let mut name: Option<usize> = None;
+    for i in 0..n {
+        match mem_get::get(b, i) {
+            Word::Num(k) => {
+                if let Some(p) = name {
+                    if !check_defines::define(w, m, p, k, c) {
+                        return false;
+                    }
+                    c += 1;
                 }
-                c += 1;
-                p = k;
-            } else {
-                was = true;
-                p = k;
+                name = Some(k);
             }
-        } else {
-            was = false;
-            p = 0;
+            _ => {
+                name = None;
+            }
         }
     }
     true

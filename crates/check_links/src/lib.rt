@@ -12,14 +12,12 @@ fn link_all(cells: &[u8], w: &mut [u8])
     requires { Laid w.old × Nodes (triples cells.now) × NoHeads (heads_of w.old) }
     ensures { Linked (triples cells.now) (heads_of w.new) (nexts_of w.new) (length (triples cells.now)) × Joined w.old w.new }
 {
-    let n = mem_numbers::triple_count(cells);
-    let mut i = 1;
-    while i < n {
+    let n = mem_numbers::count::<3>(cells);
+    for i in 1..n {
         let p = read_nodes::parent_of(cells, i);
-        let h = mem_parts::get2(w, 65536, 106516, p);
-        mem_parts::put2(w, 106516, 147496, i, h);
-        mem_parts::put2(w, 65536, 106516, p, i);
-        i += 1;
+        let h = mem_parts::get::<2>(w, 65536, 106516, p);
+        mem_parts::put::<2>(w, 106516, 147496, i, h);
+        mem_parts::put::<2>(w, 65536, 106516, p, i);
     }
 }
 

@@ -1,9 +1,9 @@
 -- What marking and unmarking an and-box's locals leave, and their loops: F gives the numbers so far. Assumes nothing.
-use Rattle.std.specs.Prelude.{◌≡◌, refl, List, [], ◌∷◌, Bool, true, false, ◌&&◌, ◌||◌, not, ℕ, suc, ◌+◌, ◌-◌, ◌*◌, ◌/◌, ◌%◌, ◌≤◌, ◌<◌, eqb, length, get_or, drop}
+use Rattle.std.specs.Prelude.{◌≡◌, refl, List, [], ◌∷◌, Bool, true, false, ◌&&◌, ◌||◌, not, ℕ, suc, ◌+◌, ◌*◌, ◌/◌, ◌%◌, ◌≤◌, ◌<◌, eqb, length, get_or, drop}
 use Rattle.std.proofs.Common.{ap, sym, ◌∙◌, arith, eq-eqb, ne_eqb}
 use Rattle.std.proofs.Math.Decide.{ℕ_discrete}
 use Rattle.akl.specs.Base.{if}
-use Rattle.mem_numbers.specs.Stored.{Stored, stored_same, stored_other}
+use Rattle.mem_numbers.specs.Stored.{stored_same, stored_other}
 use Rattle.mem_parts.specs.Parts.{outside_then}
 use Rattle.mem_words.specs.declared.Word.{Word}
 use Rattle.work_tables.specs.Tables.{Laid}

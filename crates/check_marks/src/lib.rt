@@ -7,9 +7,8 @@ ghost use Rattle.work_tables.specs.Tables.{Laid};
 ghost use Rattle.check_roles.specs.Boxes.{newer};
 ghost use Rattle.check_marks.specs.Marking.{Did, Undid};
 
-use check_kinds::Seen;
-
-// The position of a local where an and-box opens at `i`; it had `g`, and `l` is that of the guard's last and-box.
+// The position of a local where an and-box opens at `i`; it had `g`, and `l` is that of the guard's last and-box. One more each, and 0
+// for none, as the tables keep them.
 fn position(l: usize, i: usize, g: usize) -> usize
     requires { (i < 28672) × (g < 32768) }
     ensures { (result ≡ newer l i g) × (result < 32768) }
@@ -29,10 +28,9 @@ pub fn mark(ws: &[u8], work: &mut [u8], at: usize, l: usize, i: usize) -> bool
     ensures { Did (words ws.now) work.old at l i work.new result }
 {
     let n = mem_words::count(ws);
-    let mut j = at;
-    while j < n {
+    for j in at..n {
         let w = mem_get::get(ws, j);
-        let Seen::One(x) = check_kinds::variable(w) else {
+        let Some(x) = check_kinds::variable(w) else {
             return true;
         };
         let v = check_vartables::name_get(work, x.0);
@@ -41,7 +39,6 @@ pub fn mark(ws: &[u8], work: &mut [u8], at: usize, l: usize, i: usize) -> bool
         }
         let g = position(l, i, v / 2);
         check_vartables::name_put(work, x.0, 2 * g + 1);
-        j += 1;
     }
     true
 }
@@ -52,14 +49,12 @@ pub fn unmark(ws: &[u8], work: &mut [u8], at: usize)
     ensures { Undid (words ws.now) work.old at work.new }
 {
     let n = mem_words::count(ws);
-    let mut j = at;
-    while j < n {
+    for j in at..n {
         let w = mem_get::get(ws, j);
-        let Seen::One(x) = check_kinds::variable(w) else {
+        let Some(x) = check_kinds::variable(w) else {
             return;
         };
         let v = check_vartables::name_get(work, x.0);
         check_vartables::name_put(work, x.0, v / 2 * 2);
-        j += 1;
     }
 }

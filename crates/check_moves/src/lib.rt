@@ -9,18 +9,8 @@ ghost use Rattle.check_shapes.specs.Bounds.{Bounded};
 ghost use Rattle.check_tables.specs.Tables.{Tabled};
 ghost use Rattle.check_moves.specs.Stepping.{Steps, Fixed, CanStep};
 
-use check_shapes::{Frame, Move};
+use check_shapes::{Frame, Move, when};
 use mem_words::Word;
-
-// The move `m` where `b` is true.
-fn when(b: bool, m: Move) -> Move
-    ensures { result ≡ if b m Move.Stop }
-{
-    if b {
-        return m;
-    }
-    Move::Stop
-}
 
 // A hiding of `v` variables.
 fn hidden(n: usize, d: usize, v: usize) -> Move
@@ -49,34 +39,13 @@ fn on_num(w: &[u8], m: usize, x: Frame, v: usize) -> Move
     ensures { Fixed w.now m x (Num v) result }
 {
     match x {
-        Frame::Close => Move::Stop,
-        Frame::Var2(_) => Move::Stop,
-        Frame::Var1(_) => Move::Stop,
-        Frame::AppVar(_) => Move::Stop,
         Frame::AppNum(n) => when(check_tables::is_con(w, m, v), Move::Stay(Frame::Args(n, 8))),
-        Frame::Args(_, _) => Move::Stop,
         Frame::CallNum(n) => Move::Stay(Frame::CallArgs(n, v, 0)),
-        Frame::CallArgs(_, _, _) => Move::Stop,
-        Frame::One(_, _) => Move::Stop,
-        Frame::Comp2(_, _) => Move::Stop,
-        Frame::Clause2(_, _) => Move::Stop,
         Frame::HideNum(n, d) => hidden(n, d, v),
         Frame::ClauseNum(n, d) => claused(n, d, v),
-        Frame::Clauses1(_, _) => Move::Stop,
-        Frame::Clauses(_, _) => Move::Stop,
         Frame::Head => when(check_tables::is_pred(w, m, v), Move::Stay(Frame::Arity)),
         Frame::Arity => when(v <= 8, Move::Stay(Frame::Body(v))),
-        Frame::Body(_) => Move::Stop,
-        Frame::Root => Move::Stop,
-        Frame::Done => Move::Stop,
-        Frame::Goals => Move::Stop,
-        Frame::AndLocals => Move::Stop,
-        Frame::AndStore => Move::Stop,
-        Frame::Members => Move::Stop,
-        Frame::Locals => Move::Stop,
-        Frame::Constraints => Move::Stop,
-        Frame::Guards => Move::Stop,
-        Frame::Guard => Move::Stop,
+        _ => Move::Stop,
     }
 }
 
@@ -86,34 +55,11 @@ fn on_end(w: &[u8], m: usize, x: Frame) -> Move
     ensures { Fixed w.now m x End result }
 {
     match x {
-        Frame::Close => Move::Pop,
-        Frame::Var2(_) => Move::Stop,
-        Frame::Var1(_) => Move::Stop,
-        Frame::AppVar(_) => Move::Stop,
-        Frame::AppNum(_) => Move::Stop,
-        Frame::Args(_, _) => Move::Pop,
-        Frame::CallNum(_) => Move::Stop,
         Frame::CallArgs(_, p, k) => when(check_tables::is_def(w, m, p, k), Move::Pop),
-        Frame::One(_, _) => Move::Stop,
-        Frame::Comp2(_, _) => Move::Stop,
-        Frame::Clause2(_, _) => Move::Stop,
-        Frame::HideNum(_, _) => Move::Stop,
-        Frame::ClauseNum(_, _) => Move::Stop,
-        Frame::Clauses1(_, _) => Move::Stop,
-        Frame::Clauses(_, _) => Move::Pop,
-        Frame::Head => Move::Stop,
-        Frame::Arity => Move::Stop,
-        Frame::Body(_) => Move::Stop,
-        Frame::Root => Move::Stop,
-        Frame::Done => Move::Stop,
-        Frame::Goals => Move::Pop,
-        Frame::AndLocals => Move::Stop,
-        Frame::AndStore => Move::Stop,
-        Frame::Members => Move::Pop,
-        Frame::Locals => Move::Pop,
-        Frame::Constraints => Move::Pop,
-        Frame::Guards => Move::Pop,
-        Frame::Guard => Move::Stop,
+        Frame::Close | Frame::Args(_, _) | Frame::Clauses(_, _) => Move::Pop,
+        Frame::Goals | Frame::Members | Frame::Locals | Frame::Constraints | Frame::Guards =>
+            Move::Pop,
+        _ => Move::Stop,
     }
 }
 

@@ -9,7 +9,8 @@ ghost use Rattle.check_nodetables.specs.Tables.{kinds_of, Marked};
 ghost use Rattle.check_namemarks.specs.Marks.{MarkedTo};
 ghost use Rattle.check_namekinds.specs.Kinds.{CanKind, IsKind, KindsTo};
 
-// The kind of node `i`, whose mark is `s`.
+// The kind of node `i`, whose mark is `s`. A sum of bits and not an enum: the table keeps it in the node's byte, and one name may be of
+// two kinds.
 fn kind(cells: &[u8], i: usize, s: usize) -> usize
     requires { CanKind (triples cells.now) i s }
     ensures { IsKind (triples cells.now) i result }
@@ -38,13 +39,11 @@ fn kind_all(cells: &[u8], w: &mut [u8])
     requires { Laid w.old × Nodes (triples cells.now) × MarkedTo (triples cells.now) (kinds_of w.old) (length (triples cells.now)) }
     ensures { KindsTo (triples cells.now) (kinds_of w.new) (length (triples cells.now)) × Marked w.old w.new }
 {
-    let n = mem_numbers::triple_count(cells);
-    let mut i = 0;
-    while i < n {
+    let n = mem_numbers::count::<3>(cells);
+    for i in 0..n {
         let s = mem_parts::get1(w, 0, 20490, i);
         let k = kind(cells, i, s);
         mem_parts::put1(w, 0, 20490, i, k);
-        i += 1;
     }
 }
 

@@ -12,6 +12,7 @@ ghost use Rattle.check_namemarks.specs.Marks.{formed, goes, packed, marked, Root
 use read_bytes::Class;
 
 // How a name of one byte is spelled: 1 as a name, 2 as digits, 3 as a variable, 0 as none of them.
+// A number and not an enum: the table keeps it as two bits of the node's byte, beside the length.
 fn first(x: u8) -> usize
     ensures { result ≡ formed (class_of x) true true }
 {
@@ -76,15 +77,13 @@ fn mark_all(cells: &[u8], w: &mut [u8])
     requires { Laid w.old × Nodes (triples cells.now) × RootMarked (kinds_of w.old) }
     ensures { MarkedTo (triples cells.now) (kinds_of w.new) (length (triples cells.now)) × Marked w.old w.new }
 {
-    let n = mem_numbers::triple_count(cells);
-    let mut i = 1;
-    while i < n {
+    let n = mem_numbers::count::<3>(cells);
+    for i in 1..n {
         let p = read_nodes::parent_of(cells, i);
         let x = read_nodes::byte_of(cells, i);
         let s = mem_parts::get1(w, 0, 20490, p);
         let v = mark(p, s, x);
         mem_parts::put1(w, 0, 20490, i, v);
-        i += 1;
     }
 }
 

@@ -12,13 +12,8 @@ fn below(n: usize, w: Word) -> bool
     ensures { result ≡ word_below n w }
 {
     match w {
-        Word::End => true,
         Word::Free(x) => x < n,
-        Word::Level(_) => true,
-        Word::Num(_) => true,
-        Word::Place(_) => true,
-        Word::Inner(_) => true,
-        Word::Bad => true,
+        _ => true,
     }
 }
 
@@ -30,10 +25,8 @@ pub fn numbers(ws: &[u8], q: usize, next: usize) -> bool
         return false;
     }
     let n = mem_words::count(ws);
-    let mut i = 0;
-    while i < n {
+    for i in 0..n {
         let w = mem_get::get(ws, i);
-        i += 1;
         if !below(next, w) {
             return false;
         }

@@ -1,18 +1,18 @@
 -- The test of query variables, word by word. Assumes nothing.
-use Rattle.std.specs.Prelude.{◌≡◌, refl, List, [], ◌∷◌, Bool, true, false, ◌&&◌, ◌||◌, ℕ, zero, suc, ◌+◌, ◌-◌, ◌≤◌, ◌<◌, eqb, leb, ltb, length, drop}
+use Rattle.std.specs.Prelude.{◌≡◌, refl, List, [], ◌∷◌, Bool, true, false, ◌&&◌, ◌||◌, not, ℕ, zero, suc, ◌+◌, ◌-◌, ◌≤◌, ◌<◌, eqb, leb, length, drop}
 use Rattle.std.proofs.Common.{ap, sym, ◌∙◌, arith, eq-eqb, ne_eqb, drop-drop}
 use Rattle.constraint.specs.Solve.{elem}
 use Rattle.akl.specs.Base.{all, range}
 use Rattle.mem_words.specs.declared.Word.{Word}
 use Rattle.mem_words.specs.declared.Word.TheVariants.{End, Free, Level, Num, Place, Inner, Bad}
 use Rattle.mem_words.specs.Words.{Read}
-use Rattle.check_words.specs.Frees.{frees, is_and, is_locals}
+use Rattle.check_words.specs.Frees.{frees, is_and}
 use Rattle.check_words.specs.Passes.{drop_word, drop_end, frees_past, goes_on, stops}
 use Rattle.check_words.specs.Query.{up, down, depth_after, locals_after, box_passes, opening_passes, local_passes, word_passes, query_from, query_passed}
 
-pub fall_some : (d : ℕ) → (d ≡ 0 → ⊥) → d - 1 ≡ down d
-fall_some zero n = absurd (n refl)
-fall_some (suc d) n = omega arith
+pub fall_is : (d : ℕ) → d - 1 ≡ down d
+fall_is zero = refl
+fall_is (suc d) = omega arith
 
 pub rise_box : (b : Bool) (d : ℕ) → b ≡ true → d + 1 ≡ up b d
 rise_box b d e = let z : d + 1 ≡ suc d = omega arith in z ∙ sym (ap (λ (b : Bool). up b d) e)
@@ -43,17 +43,9 @@ deep_at_most zero (Inner s) = omega arith
 deep_at_most (suc d) (Inner s) = omega arith
 deep_at_most d Bad = omega arith
 
-pub inner_locals : (b : Bool) (d : ℕ) → b ≡ true → ltb 1 d ≡ (b && ltb 1 d)
-inner_locals b d e = sym (ap (λ (b : Bool). b && ltb 1 d) e)
-
-pub inner_other : (b : Bool) (d : ℕ) → b ≡ false → false ≡ (b && ltb 1 d)
-inner_other b d e = sym (ap (λ (b : Bool). b && ltb 1 d) e)
-
-pub local_inner : (q : ℕ) (l : Bool) (x : ℕ) → l ≡ true → leb q x ≡ local_passes q l x
-local_inner q l x e = sym (ap (λ (l : Bool). local_passes q l x) e)
-
-pub local_other : (q : ℕ) (l : Bool) (x : ℕ) → l ≡ false → true ≡ local_passes q l x
-local_other q l x e = sym (ap (λ (l : Bool). local_passes q l x) e)
+pub local_is : (q : ℕ) (l : Bool) (x : ℕ) → (not l || leb q x) ≡ local_passes q l x
+local_is q true x = refl
+local_is q false x = refl
 
 -- whether x is among the variables at i, those before j having been looked at
 pub record Looking (x : ℕ) (W : List Word) (i j : ℕ) : Type 0 where

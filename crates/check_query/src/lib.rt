@@ -8,7 +8,6 @@ ghost use Rattle.mem_words.specs.Words.{words};
 ghost use Rattle.check_words.specs.Frees.{frees, is_and};
 ghost use Rattle.check_words.specs.Query.{up, down, depth_after, locals_after, local_passes, opening_passes, word_passes, query_passed};
 
-use check_kinds::Seen;
 use mem_sorts::{Kind, Sort};
 use mem_words::Word;
 
@@ -30,10 +29,7 @@ fn rise(b: bool, d: usize) -> usize
 fn fall(d: usize) -> usize
     ensures { result ≡ down d }
 {
-    if d == 0 {
-        return 0;
-    }
-    d - 1
+    d.saturating_sub(1)
 }
 
 // The count of open brackets behind a word.
@@ -43,12 +39,9 @@ fn depth(d: usize, w: Word) -> usize
 {
     match w {
         Word::End => fall(d),
-        Word::Free(_) => d,
-        Word::Level(_) => d,
-        Word::Num(_) => d,
         Word::Place(k) => rise(check_kinds::boxes(k), d),
         Word::Inner(_) => rise(false, d),
-        Word::Bad => d,
+        _ => d,
     }
 }
 
@@ -56,10 +49,7 @@ fn depth(d: usize, w: Word) -> usize
 fn inner(d: usize, s: Sort) -> bool
     ensures { result ≡ locals_after false d (Word.Inner s) }
 {
-    if check_kinds::lists(s) {
-        return 1 < d;
-    }
-    false
+    check_kinds::lists(s) && 1 < d
 }
 
 // Whether the locals of an inner and-box are being passed behind a word.
@@ -67,13 +57,9 @@ fn passing(l: bool, d: usize, w: Word) -> bool
     ensures { result ≡ locals_after l d w }
 {
     match w {
-        Word::End => false,
-        Word::Free(_) => l,
-        Word::Level(_) => l,
-        Word::Num(_) => l,
-        Word::Place(_) => false,
+        Word::End | Word::Place(_) => false,
         Word::Inner(s) => inner(d, s),
-        Word::Bad => l,
+        _ => l,
     }
 }
 
@@ -83,16 +69,14 @@ fn holds(ws: &[u8], i: usize, x: usize) -> bool
     ensures { result ≡ elem x (frees (drop i (words ws.now))) }
 {
     let n = mem_words::count(ws);
-    let mut j = i;
-    while j < n {
+    for j in i..n {
         let w = mem_get::get(ws, j);
-        let Seen::One(v) = check_kinds::variable(w) else {
+        let Some(v) = check_kinds::variable(w) else {
             return false;
         };
         if v.0 == x {
             return true;
         }
-        j += 1;
     }
     false
 }
@@ -102,12 +86,10 @@ fn holds_all(ws: &[u8], i: usize, q: usize) -> bool
     requires { q < 2 ^ 63 }
     ensures { result ≡ all (λ x. elem x (frees (drop i (words ws.now)))) (range 0 q) }
 {
-    let mut x = 0;
-    while x < q {
+    for x in 0..q {
         if !holds(ws, i, x) {
             return false;
         }
-        x += 1;
     }
     true
 }
@@ -130,10 +112,7 @@ fn opening(ws: &[u8], q: usize, k: Kind, d: usize, i: usize) -> bool
 fn local(q: usize, l: bool, x: usize) -> bool
     ensures { result ≡ local_passes q l x }
 {
-    if l {
-        return q <= x;
-    }
-    true
+    !l || q <= x
 }
 
 // Whether a word may stand, the words behind it going on at `i`.
@@ -142,13 +121,9 @@ fn passes(ws: &[u8], q: usize, l: bool, d: usize, w: Word, i: usize) -> bool
     ensures { result ≡ word_passes q l d w (drop i (words ws.now)) }
 {
     match w {
-        Word::End => true,
         Word::Free(x) => local(q, l, x),
-        Word::Level(_) => true,
-        Word::Num(_) => true,
         Word::Place(k) => opening(ws, q, k, d, i),
-        Word::Inner(_) => true,
-        Word::Bad => true,
+        _ => true,
     }
 }
 
@@ -160,11 +135,9 @@ pub fn query(ws: &[u8], q: usize) -> bool
     let n = mem_words::count(ws);
     let mut l = false;
     let mut d = 0;
-    let mut i = 0;
-    while i < n {
+    for i in 0..n {
         let w = mem_get::get(ws, i);
-        i += 1;
-        if !passes(ws, q, l, d, w, i) {
+        if !passes(ws, q, l, d, w, i + 1) {
             return false;
         }
         l = passing(l, d, w);

@@ -6,7 +6,7 @@ use mathlib.Core.Bool.{Bool, true, false, ◌&&◌, not}
 use Prim.Native.Nat.{ℕ, zero, suc, ◌+◌, ◌<◌, ◌≤◌}
 use native.Mathlib.Omega.{arith}
 use native.Mathlib.Decide.{ℕ_discrete}
-use lib.Dec.{T, leb, ltb, eqb, le→leb, lt→ltb, ltb→lt}
+use lib.Dec.{T, leb, eqb, le→leb, lt→ltb, ltb→lt}
 use lib.ListN.{length, get_or, take}
 use Rattle.constraint.proofs.Lists.{and_T, or_T, not_T, eqb_T}
 use Rattle.akl.specs.Base.{Name, all, any, size, same, among, repeats}

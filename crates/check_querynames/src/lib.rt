@@ -12,11 +12,10 @@ pub fn variables(cells: &[u8], vars: &[u8], w: &[u8]) -> bool
     requires { Laid w.now × CanName (triples cells.now) (kinds_of w.now) (triples vars.now) }
     ensures { Decides (NamesPass (triples cells.now) (triples vars.now)) result }
 {
-    let n = mem_numbers::triple_count(cells);
-    let q = mem_numbers::triple_count(vars);
-    let mut i = 0;
-    while i < q {
-        let x = mem_numbers::triple_get(vars, i);
+    let n = mem_numbers::count::<3>(cells);
+    let q = mem_numbers::count::<3>(vars);
+    for i in 0..q {
+        let x = mem_numbers::get::<3>(vars, i);
         if x >= n {
             return false;
         }
@@ -26,7 +25,6 @@ pub fn variables(cells: &[u8], vars: &[u8], w: &[u8]) -> bool
         if read_lookups::listed(vars, i, x) {
             return false;
         }
-        i += 1;
     }
     true
 }

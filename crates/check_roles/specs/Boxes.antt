@@ -1,12 +1,11 @@
 -- An and-box opens: its locals are in scope, and it is the last and-box of the guard that it stands in, if any. Assumes nothing.
-use Rattle.std.specs.Prelude.{◌≡◌, refl, List, [], ◌∷◌, ◌++◌, ◌⊎◌, Bool, true, false, ◌&&◌, ◌||◌, ℕ, zero, suc, ◌+◌, ◌-◌, ◌/◌, ◌%◌, ◌≤◌, ◌<◌, eqb, get_or}
-use Rattle.std.proofs.Common.{ap, ap₂, sym, ◌∙◌, subst, inl, inr, arith, eq-eqb, ne_eqb, eqb-true}
-use Rattle.std.proofs.lemmas.Bool.{eqb-false}
+use Rattle.std.specs.Prelude.{◌≡◌, refl, List, [], ◌∷◌, ◌⊎◌, Bool, true, false, ◌&&◌, ◌||◌, ℕ, suc, ◌/◌, ◌%◌, ◌≤◌, ◌<◌, eqb, get_or}
+use Rattle.std.proofs.Common.{ap, sym, ◌∙◌, subst, inl, inr, arith, eq-eqb, ne_eqb}
 use Rattle.constraint.specs.Solve.{elem}
 use Rattle.akl.specs.Base.{all, if}
 use Rattle.mem_words.specs.declared.Word.{Word}
 use Rattle.check_words.specs.Scope.{Held, clear, plain, boxed, guarding, scoped, awaits, excused, give}
-use Rattle.check_roles.specs.Held.{Is, target, Last, Cover, live, dead, under, Covers, Rel, Off, Stays, rel_dead, rel_any, rel_on}
+use Rattle.check_roles.specs.Held.{target, Last, Cover, live, dead, under, Rel, Off, Stays, rel_on}
 
 -- the position of a local where an and-box opens at i, g being the one it had, l that of the guard's last and-box
 abbrev pub newer : ℕ → ℕ → ℕ → ℕ

@@ -3,18 +3,16 @@
 -- statement the guarded goal that it belongs to; positions are one too high, 0 is for none. A variable is local to every and-box of
 -- a guard exactly when its position is that of the last of them: it is set where it is local and was so to the one before. It is
 -- not set again while that and-box is open, for no local may be in scope already. Assumes nothing.
-use Rattle.std.specs.Prelude.{◌≡◌, refl, List, [], ◌∷◌, ◌++◌, Bool, true, false, ◌&&◌, ◌||◌, ◌⊎◌, ℕ, zero, suc, ◌+◌, ◌/◌, ◌%◌, ◌≤◌, ◌<◌, eqb, get_or, drop}
-use Rattle.std.proofs.Common.{ap, ap₂, sym, ◌∙◌, subst, inl, inr, arith, eq-eqb, ne_eqb, eqb-true}
-use Rattle.std.proofs.Math.Decide.{ℕ_discrete}
-use Rattle.std.proofs.lemmas.Bool.{eqb-false}
+use Rattle.std.specs.Prelude.{◌≡◌, refl, List, [], ◌∷◌, ◌++◌, Bool, true, false, ◌&&◌, ◌||◌, ◌⊎◌, ℕ, suc, ◌+◌, ◌/◌, ◌≤◌, ◌<◌, eqb, get_or, drop}
+use Rattle.std.proofs.Common.{ap, sym, ◌∙◌, subst, inl, inr, arith, ne_eqb}
 use Rattle.constraint.specs.Solve.{elem}
-use Rattle.akl.specs.Base.{all, if}
+use Rattle.akl.specs.Base.{all}
 use Rattle.mem_words.specs.declared.Word.{Word}
 use Rattle.mem_words.specs.declared.Word.TheVariants.{End, Free, Level, Num, Place, Inner, Bad}
 use Rattle.mem_sorts.specs.declared.Kind.{Kind}
 use Rattle.mem_sorts.specs.declared.Kind.TheVariants.{Or, And, Guarded, Member, Wait, Cond, Commit}
 use Rattle.check_words.specs.Frees.{frees, is_locals}
-use Rattle.check_words.specs.Scope.{Held, clear, plain, boxed, guarding, scoped, awaits, excused, give}
+use Rattle.check_words.specs.Scope.{Held, clear, plain, boxed, guarding, scoped, awaits}
 use Rattle.check_roles.specs.declared.Role.{Role}
 use Rattle.check_roles.specs.declared.Role.TheVariants.{Clear, Plain, Boxed, Guarding}
 

@@ -1,7 +1,6 @@
 -- The test of scope at an and-box: it opens, its locals being marked, and ends. Assumes nothing.
-use Rattle.std.specs.Prelude.{◌≡◌, refl, List, [], ◌∷◌, ◌++◌, ◌⊎◌, Bool, true, false, ◌&&◌, ◌||◌, not, ℕ, zero, suc, ◌+◌, ◌-◌, ◌/◌, ◌%◌, ◌≤◌, ◌<◌, eqb, length, get_or, drop}
-use Rattle.std.proofs.Common.{ap, ap₂, sym, ◌∙◌, subst, inl, inr, arith, eq-eqb, ne_eqb, eqb-true, drop-drop}
-use Rattle.std.proofs.lemmas.Bool.{eqb-false}
+use Rattle.std.specs.Prelude.{◌≡◌, refl, List, [], ◌∷◌, ◌++◌, Bool, true, false, ◌&&◌, ◌||◌, not, ℕ, suc, ◌+◌, ◌-◌, ◌/◌, ◌%◌, ◌≤◌, ◌<◌, eqb, length, get_or, drop}
+use Rattle.std.proofs.Common.{ap, sym, ◌∙◌, subst, inl, arith, eq-eqb, ne_eqb, drop-drop}
 use Rattle.constraint.specs.Solve.{elem, distinct}
 use Rattle.akl.specs.Base.{all, if}
 use Rattle.mem_numbers.specs.Stored.{Stored, stored_same, stored_other}
@@ -10,13 +9,13 @@ use Rattle.mem_words.specs.declared.Word.TheVariants.{End, Place, Bad}
 use Rattle.mem_sorts.specs.declared.Kind.TheVariants.{And}
 use Rattle.mem_words.specs.Words.{Read}
 use Rattle.check_words.specs.Frees.{frees}
-use Rattle.check_words.specs.Scope.{Held, clear, plain, boxed, guarding, scoped, give, popped, fresh, word_scoped, held_after, scope_from, scope_passed}
+use Rattle.check_words.specs.Scope.{Held, clear, plain, boxed, guarding, scoped, give, popped, fresh, word_scoped, scope_from, scope_passed}
 use Rattle.check_words.proofs.Tests.{all_ext, all_elem, both_true, elem_append, or_false}
 use Rattle.check_words.proofs.Scope.{give_scope}
 use Rattle.check_vartables.specs.Stacks.{tops}
 use Rattle.check_roles.specs.declared.Role.{Role}
 use Rattle.check_roles.specs.declared.Role.TheVariants.{Clear, Plain, Boxed, Guarding}
-use Rattle.check_roles.specs.Held.{role_of, Is, target, Cover, live, dead, under, Rel, Stays, rel_dead, rel_any, rel_live, rel_wide, rel_on}
+use Rattle.check_roles.specs.Held.{role_of, live, dead, under, Rel, rel_dead, rel_any, rel_live, rel_wide, rel_on}
 use Rattle.check_roles.specs.Boxes.{newer, Marked, target_none, give_none, marked_stays, Linked, rel_given}
 use Rattle.check_roles.specs.Marks.{is_marked, all_new, all_new_is, mark_all, marked_all, unmark_all, unmark_half, unmark_out, unmark_in}
 use Rattle.check_roles.specs.Steps.{Holding, on, off, aimed, aim, tip}

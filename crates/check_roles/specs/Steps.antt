@@ -1,24 +1,20 @@
 -- The test of scope, word by word, with its open brackets in tables. Assumes nothing.
-use Rattle.std.specs.Prelude.{◌≡◌, refl, List, [], ◌∷◌, ◌++◌, ◌⊎◌, Bool, true, false, ◌&&◌, ◌||◌, not, ℕ, zero, suc, ◌+◌, ◌-◌, ◌/◌, ◌%◌, ◌≤◌, ◌<◌, eqb, length, get_or, drop}
-use Rattle.std.proofs.Common.{ap, ap₂, sym, ◌∙◌, subst, inl, inr, arith, eq-eqb, ne_eqb, eqb-true, drop-drop}
+use Rattle.std.specs.Prelude.{◌≡◌, refl, List, [], ◌∷◌, Bool, true, false, ◌&&◌, ◌||◌, ℕ, zero, suc, ◌+◌, ◌-◌, ◌/◌, ◌≤◌, ◌<◌, eqb, length, get_or, drop}
+use Rattle.std.proofs.Common.{ap, ap₂, sym, ◌∙◌, subst, inl, arith, eq-eqb, ne_eqb}
 use Rattle.std.proofs.Math.Decide.{ℕ_discrete}
-use Rattle.std.proofs.lemmas.Bool.{eqb-false}
-use Rattle.constraint.specs.Solve.{elem, distinct}
-use Rattle.akl.specs.Base.{all, if}
+use Rattle.constraint.specs.Solve.{elem}
 use Rattle.mem_numbers.specs.Stored.{Stored, stored_same, stored_other}
 use Rattle.mem_words.specs.declared.Word.{Word}
 use Rattle.mem_words.specs.declared.Word.TheVariants.{End, Free, Level, Num, Place, Inner, Bad}
-use Rattle.mem_sorts.specs.declared.Kind.TheVariants.{And}
 use Rattle.mem_words.specs.Words.{Read}
-use Rattle.check_words.specs.Frees.{frees, is_locals}
 use Rattle.check_words.specs.Passes.{drop_word, drop_end, goes_on, stops}
-use Rattle.check_words.specs.Scope.{Held, clear, plain, boxed, guarding, scoped, awaits, excused, give, in_names, popped, fresh, use_passes, word_scoped, held_after, scope_from, scope_passed}
+use Rattle.check_words.specs.Scope.{Held, clear, plain, boxed, guarding, scoped, excused, in_names, popped, use_passes, word_scoped, held_after, scope_from, scope_passed}
 use Rattle.check_vartables.specs.Stacks.{tops, tops_same}
 use Rattle.check_roles.specs.declared.Role.{Role}
 use Rattle.check_roles.specs.declared.Role.TheVariants.{Clear, Plain, Boxed, Guarding}
-use Rattle.check_roles.specs.Held.{role_of, names_word, Is, target, Last, Cover, live, dead, under, Covers, Rel, Stays, rel_dead, rel_any, rel_live, rel_wide, rel_on}
-use Rattle.check_roles.specs.Boxes.{Marked, target_low, target_none, target_some, give_none, marked_stays, Linked, rel_given, excused_none, excused_free, excused_some, newer}
-use Rattle.check_roles.specs.Marks.{is_marked, all_new, all_new_is, mark_all, marked_all, unmark_all, unmark_half, unmark_out, unmark_in}
+use Rattle.check_roles.specs.Held.{role_of, names_word, Is, target, Cover, live, dead, Rel, Stays, rel_dead, rel_live, rel_wide, rel_on}
+use Rattle.check_roles.specs.Boxes.{target_low, target_none, excused_none, excused_free, excused_some}
+use Rattle.check_roles.specs.Marks.{is_marked}
 
 -- before the word at i: k brackets are open, at the positions of P
 pub record Holding (C : List Word) (P T N : List ℕ) (k i : ℕ) : Type 0 where

@@ -8,7 +8,7 @@ use mem_sorts::Kind;
 use mem_words::Word;
 
 // An or-box or a bracket of locals, a store or a statement; a member or a choice-box; an and-box; a guarded goal.
-#[derive(Clone, Copy)]
+#[derive(Clone, Copy, Debug, PartialEq, Eq)]
 pub enum Role {
     Clear,
     Plain,
@@ -24,10 +24,7 @@ fn kind_role(k: Kind) -> Role
         Kind::Or => Role::Clear,
         Kind::And => Role::Boxed,
         Kind::Guarded => Role::Guarding,
-        Kind::Member => Role::Plain,
-        Kind::Wait => Role::Plain,
-        Kind::Cond => Role::Plain,
-        Kind::Commit => Role::Plain,
+        Kind::Member | Kind::Wait | Kind::Cond | Kind::Commit => Role::Plain,
     }
 }
 
@@ -36,13 +33,9 @@ pub fn role_of(w: Word) -> Role
     ensures { result ≡ role_of w }
 {
     match w {
-        Word::End => Role::Plain,
-        Word::Free(_) => Role::Plain,
-        Word::Level(_) => Role::Plain,
-        Word::Num(_) => Role::Plain,
         Word::Place(k) => kind_role(k),
         Word::Inner(_) => Role::Clear,
-        Word::Bad => Role::Plain,
+        _ => Role::Plain,
     }
 }
 
@@ -51,12 +44,7 @@ pub fn names(w: Word) -> bool
     ensures { result ≡ names_word w }
 {
     match w {
-        Word::End => false,
-        Word::Free(_) => false,
-        Word::Level(_) => false,
-        Word::Num(_) => false,
-        Word::Place(_) => false,
         Word::Inner(s) => check_kinds::lists(s),
-        Word::Bad => false,
+        _ => false,
     }
 }

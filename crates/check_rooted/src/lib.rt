@@ -11,16 +11,14 @@ pub fn rooted(cells: &[u8]) -> bool
     requires { 0 < length (triples cells.now) }
     ensures { Decides (Rooted (triples cells.now)) result }
 {
-    if mem_numbers::triple_get(cells, 0) != 0 {
+    if mem_numbers::get::<3>(cells, 0) != 0 {
         return false;
     }
-    let n = mem_numbers::triple_count(cells);
-    let mut i = 1;
-    while i < n {
+    let n = mem_numbers::count::<3>(cells);
+    for i in 1..n {
         if read_nodes::parent_of(cells, i) >= i {
             return false;
         }
-        i += 1;
     }
     true
 }

@@ -131,3 +131,10 @@ module _ (L : List ℕ) (m : ℕ) (free : Bool) (W : List Word) (start : Frame) 
 
     pub going_open : length W ≤ i → (h ≡ 0 → ⊥) → Ran L m free W start X false
     going_open b n = let o : 0 < h = omega (arith, n) in record { is = sym (ap (ends x) (stack_some h (frames_of X) o)) ∙ at_last b; rest = R.rest }
+
+-- the same of what is equal
+pub running_as : {L : List ℕ} {m : ℕ} {free : Bool} {W : List Word} {start : Frame} {X Y : List ℕ} {i h k : ℕ} {x y : Frame} → Y ≡ X → k ≡ h → y ≡ x → Running L m free W start X i h x → Running L m free W start Y i k y
+running_as {L} {m} {free} {W} {start} {X} {Y} {i} {h} {k} {x} {y} e f g R =
+    subst (λ (z : List ℕ). Running L m free W start z i k y) (sym e)
+    (subst (λ (z : ℕ). Running L m free W start X i z y) (sym f)
+    (subst (λ (z : Frame). Running L m free W start X i h z) (sym g) R))

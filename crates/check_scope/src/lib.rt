@@ -15,66 +15,60 @@ use mem_sorts::Kind;
 use mem_variables::Variable;
 use mem_words::Word;
 
-// What a word comes to: a variable is not in scope, or so many brackets are open behind it.
-#[derive(Clone, Copy)]
-pub enum Went {
-    Refused,
-    On(usize),
-}
-
-// The variable `x` is the word at `i`.
-fn variable(ws: &[u8], work: &mut [u8], i: usize, k: usize, x: Variable) -> Went
+// The variable `x` is the word at `i`: how many brackets are open behind it, or none where a variable is not in scope. So for the
+// functions below.
+fn variable(ws: &[u8], work: &mut [u8], i: usize, k: usize, x: Variable) -> Option<usize>
     requires { Ready (words ws.now) work.old k i × Read (words ws.now) i (Word.Free x.0) }
     ensures { Next (words ws.now) work.old work.new i result }
 {
     if check_uses::allowed(ws, work, k, x) {
-        return Went::On(k);
+        return Some(k);
     }
-    Went::Refused
+    None
 }
 
 // The innermost bracket ends at `i`.
-fn close(ws: &[u8], work: &mut [u8], i: usize, k: usize) -> Went
+fn close(ws: &[u8], work: &mut [u8], i: usize, k: usize) -> Option<usize>
     requires { Ready (words ws.now) work.old k i × Read (words ws.now) i Word.End }
     ensures { Next (words ws.now) work.old work.new i result }
 {
     if k == 0 {
-        return Went::On(0);
+        return Some(0);
     }
     let p = check_vartables::stack_get(work, k - 1);
     let w = mem_get::get(ws, p);
     let o = check_roles::role_of(w);
     match o {
-        Role::Clear => Went::On(k - 1),
-        Role::Plain => Went::On(k - 1),
+        Role::Clear => Some(k - 1),
+        Role::Plain => Some(k - 1),
         Role::Boxed => {
             check_marks::unmark(ws, work, p + 2);
-            Went::On(k - 1)
+            Some(k - 1)
         }
-        Role::Guarding => Went::On(k - 1),
+        Role::Guarding => Some(k - 1),
     }
 }
 
 // An and-box opens at `i`.
-fn open_box(ws: &[u8], work: &mut [u8], i: usize, k: usize) -> Went
+fn open_box(ws: &[u8], work: &mut [u8], i: usize, k: usize) -> Option<usize>
     requires { Ready (words ws.now) work.old k i × Read (words ws.now) i (Word.Place Kind.And) }
     ensures { Next (words ws.now) work.old work.new i result }
 {
     let t = check_uses::aim(ws, work, k);
     if t == 0 {
         if !check_marks::mark(ws, work, i + 2, 0, i) {
-            return Went::Refused;
+            return None;
         }
         check_vartables::stack_put(work, k, i);
-        return Went::On(k + 1);
+        return Some(k + 1);
     }
     let l = check_vartables::link_get(work, t - 1);
     if !check_marks::mark(ws, work, i + 2, l, i) {
-        return Went::Refused;
+        return None;
     }
     check_vartables::link_put(work, t - 1, i + 1);
     check_vartables::stack_put(work, k, i);
-    Went::On(k + 1)
+    Some(k + 1)
 }
 
 // Whether a bracket may not open in the guard or body of `t`; `b` says whether it may in any.
@@ -88,21 +82,21 @@ fn barred(b: bool, t: usize) -> bool
 }
 
 // Another bracket opens at `i`; `b` says whether it may in a guard or body.
-fn open_other(ws: &[u8], work: &mut [u8], i: usize, k: usize, b: bool) -> Went
+fn open_other(ws: &[u8], work: &mut [u8], i: usize, k: usize, b: bool) -> Option<usize>
     requires { Ready (words ws.now) work.old k i }
     ensures { Opening (words ws.now) work.old k i b work.new result }
 {
     let t = check_uses::aim(ws, work, k);
     if barred(b, t) {
-        return Went::Refused;
+        return None;
     }
     check_vartables::link_put(work, i, t);
     check_vartables::stack_put(work, k, i);
-    Went::On(k + 1)
+    Some(k + 1)
 }
 
 // A place opens at `i`.
-fn open_place(ws: &[u8], work: &mut [u8], i: usize, k: usize, p: Kind) -> Went
+fn open_place(ws: &[u8], work: &mut [u8], i: usize, k: usize, p: Kind) -> Option<usize>
     requires { Ready (words ws.now) work.old k i × Read (words ws.now) i (Word.Place p) }
     ensures { Next (words ws.now) work.old work.new i result }
 {
@@ -118,18 +112,18 @@ fn open_place(ws: &[u8], work: &mut [u8], i: usize, k: usize, p: Kind) -> Went
 }
 
 // The word at `i` is `w`.
-fn step(ws: &[u8], work: &mut [u8], i: usize, k: usize, w: Word) -> Went
+fn step(ws: &[u8], work: &mut [u8], i: usize, k: usize, w: Word) -> Option<usize>
     requires { Ready (words ws.now) work.old k i × Read (words ws.now) i w }
     ensures { Next (words ws.now) work.old work.new i result }
 {
     match w {
         Word::End => close(ws, work, i, k),
         Word::Free(x) => variable(ws, work, i, k, Variable(x)),
-        Word::Level(_) => Went::On(k),
-        Word::Num(_) => Went::On(k),
+        Word::Level(_) => Some(k),
+        Word::Num(_) => Some(k),
         Word::Place(p) => open_place(ws, work, i, k, p),
         Word::Inner(_) => open_other(ws, work, i, k, true),
-        Word::Bad => Went::On(k),
+        Word::Bad => Some(k),
     }
 }
 
@@ -140,19 +134,12 @@ fn walk(ws: &[u8], work: &mut [u8]) -> bool
 {
     let n = mem_words::count(ws);
     let mut k = 0;
-    let mut i = 0;
-    while i < n {
+    for i in 0..n {
         let w = mem_get::get(ws, i);
-        let g = step(ws, work, i, k, w);
-        i += 1;
-        match g {
-            Went::Refused => {
-                return false;
-            }
-            Went::On(m) => {
-                k = m;
-            }
-        }
+        let Some(open) = step(ws, work, i, k, w) else {
+            return false;
+        };
+        k = open;
     }
     true
 }

@@ -17,16 +17,9 @@ pub record Moves (x : Frame) (w : Word) (r : Move) : Type 0 where
 pub told : {A B : Type 0} (f : A → B) {s t : A} {r : B} → s ≡ t → r ≡ f t → r ≡ f s
 told f e p = p ∙ ap f (sym e)
 
--- a move in a frame that was matched
-pub moved : {w : Word} {x y : Frame} {r : Move} → x ≡ y → Moves y w r → Moves x w r
-moved {w} e p = record { is = λ con pred def free. told (λ (z : Frame). step con pred def free z w) e (p.is con pred def free) }
-
 -- r is what a variable's number does in the frame x
 pub record Frees (x : Frame) (free : Bool) (r : Move) : Type 0 where
   pub is : (con pred : ℕ → Bool) (def : ℕ → ℕ → Bool) (v : ℕ) → r ≡ step con pred def free x (Free v)
-
-pub freed : {x y : Frame} {free : Bool} {r : Move} → x ≡ y → Frees y free r → Frees x free r
-freed {free = free} e p = record { is = λ con pred def v. told (λ (z : Frame). step con pred def free z (Free v)) e (p.is con pred def v) }
 
 -- two tests, the second known
 pub both_yes : (b c : Bool) (m r : Move) → c ≡ true → r ≡ if b m Stop → r ≡ if (b && c) m Stop

@@ -1,6 +1,9 @@
 // What is left of a bracket that is being read, and what a word does to it.
 #![tactic(auto)]
 
+ghost use Rattle.std.specs.Prelude.{◌≡◌};
+ghost use Rattle.akl.specs.Base.{if};
+
 // The rest of a bracket, up to its End. `n` variables are bound around it, hidings and choices may nest `d` deeper in it.
 #[derive(Clone, Copy)]
 pub enum Frame {
@@ -55,4 +58,11 @@ pub enum Move {
     Stay(Frame),
     Push(Frame, Frame),
     Pop,
+}
+
+// The move `m` where `b` is true, else a refusal.
+pub fn when(b: bool, m: Move) -> Move
+    ensures { result ≡ if b m Move.Stop }
+{
+    if b { m } else { Move::Stop }
 }

@@ -12,12 +12,10 @@ pub fn spelled(cells: &[u8], i: usize, word: &[u8]) -> bool
     ensures { result ≡ same (named (triples cells.now) i) word.now }
 {
     let mut k = i;
-    let mut j = word.len();
-    while j > 0 {
+    for j in (0..word.len()).rev() {
         if k == 0 {
             return false;
         }
-        j -= 1;
         if read_nodes::byte_of(cells, k) != word[j] {
             return false;
         }

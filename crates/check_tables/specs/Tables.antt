@@ -3,9 +3,11 @@
 --   0         kinds of names: 1 a constructor, 2 a predicate's, 4 a variable's  20,490   1
 --   20,992    arities: bit k for a definition with k parameters                 20,489   2
 --   65,536    frames of the brackets that are open                              49,152   4
-use Rattle.std.specs.Prelude.{◌≡◌, List, Bool, false, ◌&&◌, ℕ, zero, suc, ◌/◌, ◌%◌, ◌-◌, ◌≤◌, ◌<◌, leb, ltb, eqb, length, get_or}
-use Rattle.std.proofs.Common.{ap, sym, ◌∙◌, sub-one, arith, lt-ltb, le-ltb, le-leb}
+use Rattle.std.specs.Prelude.{◌≡◌, List, Bool, false, ◌&&◌, ℕ, zero, suc, ◌+◌, ◌/◌, ◌%◌, ◌^◌, ◌≤◌, ◌<◌, leb, ltb, eqb, length, get_or}
+use Rattle.std.proofs.Common.{ap, sym, ◌∙◌, arith, lt-ltb, le-ltb, le-leb}
+use Rattle.std.proofs.Math.Nat.{div-one}
 use Rattle.std.proofs.lemmas.Bool.{lt-leb}
+use Rattle.std.proofs.lemmas.Nat.{shr-shr}
 use Rattle.mem_numbers.specs.Numbers.{shorts, longs, Got, length_shorts, length_longs}
 use Rattle.mem_parts.specs.Parts.{cut, length_cut, Outside, cut_left, CanGet}
 
@@ -28,16 +30,11 @@ unfoldable pub bit : ℕ → ℕ → ℕ
 bit zero a = a % 2
 bit (suc k) a = bit k (a / 2)
 
--- one bit on, and at the end
-pub bit_on : (j x r : ℕ) → bit j x ≡ r → 0 < j → bit (j - 1) (x / 2) ≡ r
+-- it is the lowest one of the number shifted by k
+pub bit_shifted : (k a : ℕ) → a / 2 ^ k % 2 ≡ bit k a
 unfolding bit
-bit_on zero x r e p = absurd (omega arith)
-bit_on (suc j) x r e p = ap (λ (k : ℕ). bit k (x / 2)) (sub-one (suc j)) ∙ e
-
-pub bit_end : (j x r : ℕ) → bit j x ≡ r → j ≤ 0 → x % 2 ≡ r
-unfolding bit
-bit_end zero x r e p = e
-bit_end (suc j) x r e p = absurd (omega arith)
+bit_shifted zero a = ap (λ (n : ℕ). n % 2) (div-one a)
+bit_shifted (suc k) a = let e : suc k ≡ 1 + k = omega arith in ap (λ (n : ℕ). a / 2 ^ n % 2) e ∙ sym (ap (λ (n : ℕ). n % 2) (shr-shr a 1 k)) ∙ bit_shifted k (a / 2)
 
 -- of m names with the kinds B and the arities A: which numbers are those of constructors, of predicates' names, of definitions
 unfoldable pub con_of : ℕ → List ℕ → ℕ → Bool

@@ -1,20 +1,15 @@
 // What the tables of the working slice say of a name's number.
 #![tactic(auto)]
 
-ghost use Rattle.std.specs.Prelude.{◌≡◌};
+ghost use Rattle.std.specs.Prelude.{◌≡◌, ◌≤◌};
 ghost use Rattle.check_tables.specs.Tables.{kinds_of, arities_of, Tabled, bit, con_of, pred_of, def_of};
 
 // Bit `k` of `a`.
 fn bit(a: usize, k: usize) -> usize
+    requires { k ≤ 8 }
     ensures { result ≡ bit k a }
 {
-    let mut x = a;
-    let mut j = k;
-    while 0 < j {
-        x = x / 2;
-        j -= 1;
-    }
-    x % 2
+    (a >> k) % 2
 }
 
 // Whether `i` is the number of a constructor, of `m` names.
@@ -50,7 +45,7 @@ pub fn is_def(w: &[u8], m: usize, p: usize, k: usize) -> bool
         if 8 < k {
             return false;
         }
-        let a = mem_parts::get2(w, 20992, 61970, p);
+        let a = mem_parts::get::<2>(w, 20992, 61970, p);
         let b = bit(a, k);
         return b == 1;
     }

@@ -12,7 +12,8 @@ ghost use Rattle.check_uses.specs.Uses.{Look, may_use};
 use check_roles::Role;
 use mem_variables::Variable;
 
-// One more than the position of the guarded goal that the innermost of `k` open brackets belongs to; 0 if there is none.
+// One more than the position of the guarded goal that the innermost of `k` open brackets belongs to; 0 if there is none. No Option: the
+// number is read from the table of links and written there as it is.
 pub fn aim(ws: &[u8], work: &[u8], k: usize) -> usize
     requires { Look (words ws.now) work.now k }
     ensures { result ≡ aimed (words ws.now) (links_of work.now) (tops (stack_of work.now) k) }

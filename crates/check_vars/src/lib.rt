@@ -6,17 +6,7 @@ ghost use Rattle.akl.specs.Base.{if};
 ghost use Rattle.mem_words.specs.declared.Word.TheVariants.{Level};
 ghost use Rattle.check_shapes.specs.Moving.{Moves, Frees};
 
-use check_shapes::{Frame, Move};
-
-// The move `m` where `b` is true.
-fn when(b: bool, m: Move) -> Move
-    ensures { result ≡ if b m Move.Stop }
-{
-    if b {
-        return m;
-    }
-    Move::Stop
-}
+use check_shapes::{Frame, Move, when};
 
 // An argument of an application, `k` being left.
 fn one_less(b: bool, n: usize, k: usize) -> Move
@@ -43,34 +33,12 @@ pub fn on_level(x: Frame, l: usize) -> Move
     ensures { Moves x (Level l) result }
 {
     match x {
-        Frame::Close => Move::Stop,
         Frame::Var2(n) => when(l < n, Move::Stay(Frame::Var1(n))),
         Frame::Var1(n) => when(l < n, Move::Stay(Frame::Close)),
         Frame::AppVar(n) => when(l < n, Move::Stay(Frame::AppNum(n))),
-        Frame::AppNum(_) => Move::Stop,
         Frame::Args(n, k) => one_less(l < n, n, k),
-        Frame::CallNum(_) => Move::Stop,
         Frame::CallArgs(n, p, k) => one_more(l < n, n, p, k),
-        Frame::One(_, _) => Move::Stop,
-        Frame::Comp2(_, _) => Move::Stop,
-        Frame::Clause2(_, _) => Move::Stop,
-        Frame::HideNum(_, _) => Move::Stop,
-        Frame::ClauseNum(_, _) => Move::Stop,
-        Frame::Clauses1(_, _) => Move::Stop,
-        Frame::Clauses(_, _) => Move::Stop,
-        Frame::Head => Move::Stop,
-        Frame::Arity => Move::Stop,
-        Frame::Body(_) => Move::Stop,
-        Frame::Root => Move::Stop,
-        Frame::Done => Move::Stop,
-        Frame::Goals => Move::Stop,
-        Frame::AndLocals => Move::Stop,
-        Frame::AndStore => Move::Stop,
-        Frame::Members => Move::Stop,
-        Frame::Locals => Move::Stop,
-        Frame::Constraints => Move::Stop,
-        Frame::Guards => Move::Stop,
-        Frame::Guard => Move::Stop,
+        _ => Move::Stop,
     }
 }
 
@@ -79,33 +47,12 @@ pub fn on_free(x: Frame, free: bool) -> Move
     ensures { Frees x free result }
 {
     match x {
-        Frame::Close => Move::Stop,
         Frame::Var2(n) => when(free, Move::Stay(Frame::Var1(n))),
         Frame::Var1(_) => when(free, Move::Stay(Frame::Close)),
         Frame::AppVar(n) => when(free, Move::Stay(Frame::AppNum(n))),
-        Frame::AppNum(_) => Move::Stop,
         Frame::Args(n, k) => one_less(free, n, k),
-        Frame::CallNum(_) => Move::Stop,
         Frame::CallArgs(n, p, k) => one_more(free, n, p, k),
-        Frame::One(_, _) => Move::Stop,
-        Frame::Comp2(_, _) => Move::Stop,
-        Frame::Clause2(_, _) => Move::Stop,
-        Frame::HideNum(_, _) => Move::Stop,
-        Frame::ClauseNum(_, _) => Move::Stop,
-        Frame::Clauses1(_, _) => Move::Stop,
-        Frame::Clauses(_, _) => Move::Stop,
-        Frame::Head => Move::Stop,
-        Frame::Arity => Move::Stop,
-        Frame::Body(_) => Move::Stop,
-        Frame::Root => Move::Stop,
-        Frame::Done => Move::Stop,
-        Frame::Goals => Move::Stop,
-        Frame::AndLocals => Move::Stop,
-        Frame::AndStore => Move::Stop,
-        Frame::Members => Move::Stop,
         Frame::Locals => Move::Stay(Frame::Locals),
-        Frame::Constraints => Move::Stop,
-        Frame::Guards => Move::Stop,
-        Frame::Guard => Move::Stop,
+        _ => Move::Stop,
     }
 }

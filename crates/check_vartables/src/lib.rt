@@ -10,7 +10,7 @@ pub fn name_get(w: &[u8], i: usize) -> usize
     requires { CanRead w.now 65536 i }
     ensures { Got (names_of w.now) i 65536 result }
 {
-    mem_parts::get2(w, 262144, 393216, i)
+    mem_parts::get::<2>(w, 262144, 393216, i)
 }
 
 // Keeps `v` for the variable `i`.
@@ -18,7 +18,7 @@ pub fn name_put(w: &mut [u8], i: usize, v: usize)
     requires { CanWrite w.old 65536 i 65536 v }
     ensures { PutName w.old i v w.new }
 {
-    mem_parts::put2(w, 262144, 393216, i, v);
+    mem_parts::put::<2>(w, 262144, 393216, i, v);
 }
 
 // The stack's number at `i`.
@@ -26,7 +26,7 @@ pub fn stack_get(w: &[u8], i: usize) -> usize
     requires { CanRead w.now 28672 i }
     ensures { Got (stack_of w.now) i 65536 result }
 {
-    mem_parts::get2(w, 393216, 450560, i)
+    mem_parts::get::<2>(w, 393216, 450560, i)
 }
 
 // Makes `v` the stack's number at `i`.
@@ -34,7 +34,7 @@ pub fn stack_put(w: &mut [u8], i: usize, v: usize)
     requires { CanWrite w.old 28672 i 65536 v }
     ensures { PutStack w.old i v w.new }
 {
-    mem_parts::put2(w, 393216, 450560, i, v);
+    mem_parts::put::<2>(w, 393216, 450560, i, v);
 }
 
 // The number kept for the word at `i`.
@@ -42,7 +42,7 @@ pub fn link_get(w: &[u8], i: usize) -> usize
     requires { CanRead w.now 28672 i }
     ensures { Got (links_of w.now) i 65536 result }
 {
-    mem_parts::get2(w, 450560, 507904, i)
+    mem_parts::get::<2>(w, 450560, 507904, i)
 }
 
 // Keeps `v` for the word at `i`.
@@ -50,7 +50,7 @@ pub fn link_put(w: &mut [u8], i: usize, v: usize)
     requires { CanWrite w.old 28672 i 65536 v }
     ensures { PutLink w.old i v w.new }
 {
-    mem_parts::put2(w, 450560, 507904, i, v);
+    mem_parts::put::<2>(w, 450560, 507904, i, v);
 }
 
 // Makes the numbers of all variables zero.

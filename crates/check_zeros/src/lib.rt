@@ -9,7 +9,7 @@ ghost use Rattle.check_zeros.specs.Zeros.{Zeros, Within, Tallied, ZeroTo, OneIf}
 fn nonzero(x: u8) -> u8
     ensures { OneIf x result }
 {
-    if x == 0 { 0 } else { 1 }
+    u8::from(x != 0)
 }
 
 // How many of the 128 bytes from `i` on are not zero. No branch, so that it is done by vectors.
@@ -18,10 +18,8 @@ fn tally(b: &[u8], i: usize) -> u8
     ensures { Tallied b.now i 128 result }
 {
     let mut s: u8 = 0;
-    let mut k = 0;
-    while k < 128 {
+    for k in 0..128 {
         s += nonzero(b[i + k]);
-        k += 1;
     }
     s
 }
@@ -31,6 +29,7 @@ fn front(b: &[u8], a: usize, e: usize) -> usize
     requires { Within b.now a (e - a) × (a ≤ e) }
     ensures { ZeroTo b.now a e result }
 {
+    // By 128 and not by one: `all` on the bytes takes fifteen times as long.
     let mut i = a;
     while 128 <= e - i {
         if tally(b, i) != 0 {
@@ -46,12 +45,11 @@ pub fn zeros(b: &[u8], a: usize, e: usize) -> bool
     requires { Within b.now a (e - a) × (a ≤ e) }
     ensures { Decides (Zeros b.now a e) result }
 {
-    let mut i = front(b, a, e);
-    while i < e {
+    let start = front(b, a, e);
+    for i in start..e {
         if b[i] != 0 {
             return false;
         }
-        i += 1;
     }
     true
 }

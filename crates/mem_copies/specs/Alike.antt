@@ -12,11 +12,6 @@ pub record Alike {A : Type 0} (l : List A) (i : ℕ) (m : List A) (j n r : ℕ) 
   pub few : r ≤ n
   pub runs : run i r l ≡ run j r m
 
--- a count of the n elements that are the same, one by one: where it is n, all are
-pub record Tallied {A : Type 0} (l : List A) (i : ℕ) (m : List A) (j n r : ℕ) : Type 0 where
-  pub few : r ≤ n
-  pub all : r ≡ n → run i n l ≡ run j n m
-
 -- two runs one after the other
 pub run_join : {A : Type 0} (i j k s : ℕ) (l m : List A) → run i k l ≡ run j k m → run (i + k) s l ≡ run (j + k) s m → run i (k + s) l ≡ run j (k + s) m
 unfolding run

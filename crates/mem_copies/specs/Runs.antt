@@ -1,9 +1,9 @@
 -- Runs of elements in a list: copied into another list, moved within one, and compared. Assumes nothing.
 use Rattle.std.specs.Prelude.{◌≡◌, refl, List, [], ◌∷◌, ◌++◌, map, ℕ, zero, suc, ◌+◌, ◌-◌, ◌<◌, ◌≤◌, length, set, take}
 use Rattle.std.proofs.Math.Path.{ap, sym}
-use Rattle.std.proofs.Common.{ap₂, ◌∙◌, append_assoc, add-one, not-suc-le-zero, le_of_suc-le-suc, arith, length-drop, get_or-drop, length-take-le, drop-cons, take-suc}
+use Rattle.std.proofs.Common.{ap₂, ◌∙◌, append_assoc, add-one, not-suc-le-zero, le_of_suc-le-suc, arith, length-drop, get_or-drop, length-take-le, take-suc}
 use Rattle.std.proofs.Math.ListN.{get_or, drop, get_or-append}
-use Rattle.std.proofs.lemmas.List.{length-map, set_at}
+use Rattle.std.proofs.lemmas.List.{length-map}
 use Rattle.std.proofs.Math.Seq.{paste, paste-zero, paste-suc, get_or-append-add, get_or-take, length_paste_head}
 use Rattle.std.proofs.lemmas.List.Edits.{length-paste, take-paste, drop-paste}
 use Rattle.mem_numbers.specs.Stored.{Stored}
@@ -19,14 +19,10 @@ pub record CanCopyOpened {A : Type 0} (S : List A) (from n : ℕ) (N : List A) (
   pub room : at + n ≤ length D
   pub words : v + m ≤ length N
 
--- what may be moved towards lower indices, and towards higher ones
-pub record CanMoveDown {A : Type 0} (D : List A) (from n at : ℕ) : Type 0 where
+-- what may be moved: the n elements from `from` on, to `at` in the same list
+pub record CanMove {A : Type 0} (D : List A) (from n at : ℕ) : Type 0 where
   pub inside : from + n ≤ length D
-  pub down : at ≤ from
-
-pub record CanMoveUp {A : Type 0} (D : List A) (from n at : ℕ) : Type 0 where
   pub room : at + n ≤ length D
-  pub up : from ≤ at
 
 -- what may be compared: n elements from i on and n from j on
 pub record CanCompare {A : Type 0} (l : List A) (i : ℕ) (m : List A) (j n : ℕ) : Type 0 where
@@ -47,7 +43,7 @@ pub record Copied {A : Type 0} (D : List A) (at : ℕ) (S : List A) (n : ℕ) (X
   pub long : length X ≡ length D
 
 module _ {A : Type 0} (D : List A) (at : ℕ) (S : List A) where
-  as_paste : (n : ℕ) → copied D at S n ≡ paste D at S n
+  pub as_paste : (n : ℕ) → copied D at S n ≡ paste D at S n
   unfolding copied
   as_paste n = sym (append_assoc (take at D) (take n S) (drop (at + n) D))
 
@@ -109,32 +105,6 @@ length_rest l from n h = omega (arith, length-drop from l)
 
 pub length_mapped : {A B : Type 0} (f : A → B) (l : List A) (from n : ℕ) → from + n ≤ length l → n ≤ length (map f (drop from l))
 length_mapped f l from n h = omega (arith, length-drop from l, length-map (drop from l) f)
-
--- a copy that grows downwards
-copied_less : {A : Type 0} (D S : List A) (a m : ℕ) (v d : A) → a < length D → set (copied D (suc a) S m) a v ≡ copied D a (v ∷ S) (suc m)
-unfolding copied
-copied_less {A} D S a m v d h =
-    let r : List A = take m S ++ drop (suc a + m) D in
-    let e : suc a + m ≡ a + suc m = omega arith in
-    ap (λ (l : List A). set l a v) (ap (λ (l : List A). l ++ r) (take-suc D a d h) ∙ append_assoc (take a D) _ r)
-    ∙ set_at (take a D) (get_or D a d) r v a (length-take-le a D (omega arith))
-    ∙ ap (λ (k : ℕ). take a D ++ (v ∷ (take m S ++ drop k D))) e
-
--- a turn of a loop that moves n elements towards higher indices within one list, the last first
-pub move_up_step : {A : Type 0} (D W X : List A) (from at n i : ℕ) (v d : A) → 0 < i → i ≤ n → from ≤ at → at + n ≤ length D → W ≡ copied D (at + i) (drop (from + i) D) (n - i)
-    → v ≡ get_or W (from + (i - 1)) d → Stored W (at + (i - 1)) v X
-    → X ≡ copied D (at + (i - 1)) (drop (from + (i - 1)) D) (n - (i - 1))
-move_up_step {A} D W X from at n i v d h0 hi hf hn inv ev p =
-    let j : ℕ = i - 1 in
-    let e1 : at + i ≡ suc (at + j) = omega arith in
-    let e2 : from + i ≡ suc (from + j) = omega arith in
-    let e3 : n - j ≡ suc (n - i) = omega arith in
-    let old : v ≡ get_or D (from + j) d = ev ∙ ap (λ (l : List A). get_or l (from + j) d) inv ∙ get_or_copied_before D (at + i) _ (n - i) (from + j) d (omega arith) (omega arith) in
-    let dc : drop (from + j) D ≡ v ∷ drop (from + i) D = drop-cons D (from + j) d (omega arith) ∙ ap₂ (λ (x : A) (k : ℕ). x ∷ drop k D) (sym old) (sym e2) in
-    p.list ∙ ap (λ (l : List A). set l (at + j) v) inv
-    ∙ ap (λ (k : ℕ). set (copied D k (drop (from + i) D) (n - i)) (at + j) v) e1
-    ∙ copied_less D (drop (from + i) D) (at + j) (n - i) v d (omega arith)
-    ∙ ap₂ (copied D (at + j)) (sym dc) (sym e3)
 
 -- two runs are the same element by element
 pub run_none : {A : Type 0} (i j : ℕ) (l m : List A) → run i 0 l ≡ run j 0 m

@@ -13,10 +13,9 @@ pub fn copy_bytes(src: &[u8], from: usize, n: usize, dst: &mut [u8], at: usize)
     requires { CanCopy src.now from n dst.old at }
     ensures { Copied dst.old at (drop from src.now) n dst.new }
 {
-    let mut i = 0;
-    while i < n {
+    // A loop: std's copy_from_slice calls memmove, and the library for hosts needs memcpy and memset alone (host/akl.h).
+    for i in 0..n {
         dst[at + i] = src[from + i];
-        i += 1;
     }
 }
 

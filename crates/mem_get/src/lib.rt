@@ -78,8 +78,8 @@ pub fn get(b: &[u8], i: usize) -> Word
     let j = 3 * i;
     let k = j + 1;
     let l = k + 1;
-    let c = mem_numbers::wide(b[j]);
-    let lo = mem_numbers::wide(b[k]);
-    let hi = mem_numbers::wide(b[l]);
+    let c = usize::from(b[j]);
+    let lo = usize::from(b[k]);
+    let hi = usize::from(b[l]);
     make(c, lo + hi * 256)
 }

@@ -1,8 +1,9 @@
--- Numbers in a list of bytes, the low byte first: numbers of two, three and four bytes, by the laws of pieces.
+-- Numbers in a list of bytes, the low byte first, of any width, by the laws of pieces; those of two, three and four bytes have names.
 -- Assumes nothing.
-use Rattle.std.specs.Prelude.{◌≡◌, refl, List, [], ◌∷◌, map, ℕ, zero, suc, ◌+◌, ◌*◌, ◌/◌, ◌^◌, ◌<◌, ◌≤◌, length, get_or, set, take, drop, replicate}
-use Rattle.std.proofs.Common.{ap, sym, ◌∙◌, add-one, not-suc-le-zero, le_of_suc-le-suc, arith, length-set, drop-cons}
+use Rattle.std.specs.Prelude.{◌≡◌, refl, List, [], ◌∷◌, map, ℕ, zero, suc, ◌+◌, ◌-◌, ◌*◌, ◌/◌, ◌%◌, ◌^◌, ◌<◌, ◌≤◌, length, get_or, set, take, drop, replicate}
+use Rattle.std.proofs.Common.{ap, sym, ◌∙◌, add-one, lit<, not-suc-le-zero, le_of_suc-le-suc, arith, length-set, drop-cons}
 use Rattle.std.proofs.Math.Decide.{dec_lt}
+use Rattle.std.proofs.Math.Nat.{pow-suc, pow-le-pow_right, mul-le-mul_right, div-mul-le_self}
 use Rattle.std.proofs.lemmas.List.{length-map}
 use Rattle.std.proofs.Math.ListN.{get_or-map}
 use Rattle.std.proofs.lemmas.List.Edits.{sets}
@@ -29,17 +30,24 @@ stores l j (b ∷ bs) = stores (set l j b) (j + 1) bs
 pub numbers : ℕ → ℕ → List ℕ → List ℕ
 numbers n w l = map value (chunks n w l)
 
--- the two-byte numbers of a list of bytes; an odd last byte is no number
-pub shorts : List ℕ → List ℕ
-shorts l = numbers (length l / 2) 2 l
+-- the numbers of w bytes each of a list of bytes; bytes left over are no number
+pub numbers_of : ℕ → List ℕ → List ℕ
+numbers_of w l = numbers (length l / w) w l
 
--- the three-byte numbers of a list of bytes
-pub triples : List ℕ → List ℕ
-triples l = numbers (length l / 3) 3 l
+-- the two-byte numbers of a list of bytes, the three-byte ones and the four-byte ones
+abbrev pub shorts : List ℕ → List ℕ
+shorts = numbers_of 2
 
--- the four-byte numbers of a list of bytes
-pub longs : List ℕ → List ℕ
-longs l = numbers (length l / 4) 4 l
+abbrev pub triples : List ℕ → List ℕ
+triples = numbers_of 3
+
+abbrev pub longs : List ℕ → List ℕ
+longs = numbers_of 4
+
+-- the w bytes of v, the low byte first
+abbrev pub digits : ℕ → ℕ → List ℕ
+digits zero v = []
+digits (suc w) v = v % 256 ∷ digits w (v / 256)
 
 -- a number that was read: the element, and its bound
 pub record Got (L : List ℕ) (i bound r : ℕ) : Type 0 where
@@ -88,48 +96,65 @@ module _ {B : Type 0} (f : List ℕ → B) (n w : ℕ) (l : List ℕ) where
 pub length_stores : (l : List ℕ) (j : ℕ) (bs : List ℕ) → length (stores l j bs) ≡ length l
 length_stores l j bs = ap length (stores_sets l j bs) ∙ length-sets l j bs
 
-pub length_shorts : (l : List ℕ) → length (shorts l) ≡ length l / 2
-unfolding shorts numbers
-length_shorts l = length_read value (length l / 2) 2 l
+pub length_numbers : (w : ℕ) (l : List ℕ) → length (numbers_of w l) ≡ length l / w
+unfolding numbers_of numbers
+length_numbers w l = length_read value (length l / w) w l
 
-pub length_triples : (l : List ℕ) → length (triples l) ≡ length l / 3
-unfolding triples numbers
-length_triples l = length_read value (length l / 3) 3 l
+-- a piece of those that are there lies within the list
+pub inside : (w n i : ℕ) → 0 < w → i < n / w → w * i + w ≤ n
+inside w n i z h =
+    let a : (i + 1) * w ≤ n / w * w = mul-le-mul_right w (omega arith) in
+    let b = div-mul-le_self n w in
+    omega arith
 
-pub length_longs : (l : List ℕ) → length (longs l) ≡ length l / 4
-unfolding longs numbers
-length_longs l = length_read value (length l / 4) 4 l
+-- the bytes of a number that is there lie within the list
+pub room_of : (w : ℕ) (l : List ℕ) (i : ℕ) → 0 < w → i < length (numbers_of w l) → w * i + w ≤ length l
+room_of w l i z h = inside w (length l) i z (omega (arith, length_numbers w l))
 
-pub get_or_shorts : (l : List ℕ) (i : ℕ) → i < length (shorts l) → get_or (shorts l) i 0 ≡ value_at 2 l (2 * i)
-unfolding shorts numbers
-get_or_shorts l i h = let k : i < length l / 2 = omega (arith, length_shorts l) in get_d_read value (length l / 2) 2 l i k ∙ value_at_lem 2 l (2 * i) (omega arith)
-
-pub get_or_triples : (l : List ℕ) (i : ℕ) → i < length (triples l) → get_or (triples l) i 0 ≡ value_at 3 l (3 * i)
-unfolding triples numbers
-get_or_triples l i h = let k : i < length l / 3 = omega (arith, length_triples l) in get_d_read value (length l / 3) 3 l i k ∙ value_at_lem 3 l (3 * i) (omega arith)
-
-pub get_or_longs : (l : List ℕ) (i : ℕ) → i < length (longs l) → get_or (longs l) i 0 ≡ value_at 4 l (4 * i)
-unfolding longs numbers
-get_or_longs l i h = let k : i < length l / 4 = omega (arith, length_longs l) in get_d_read value (length l / 4) 4 l i k ∙ value_at_lem 4 l (4 * i) (omega arith)
+pub get_or_numbers : (w : ℕ) (l : List ℕ) (i : ℕ) → 0 < w → i < length (numbers_of w l) → get_or (numbers_of w l) i 0 ≡ value_at w l (w * i)
+unfolding numbers_of numbers
+get_or_numbers w l i z h =
+    let k : i < length l / w = omega (arith, length_numbers w l) in
+    get_d_read value (length l / w) w l i k ∙ value_at_lem w l (w * i) (inside w (length l) i z k)
 
 -- a list of bytes that was stored to is cut as before
-pub stored_shorts : (l bs : List ℕ) (i v : ℕ) → i < length (shorts l) → length bs ≡ 2 → value bs ≡ v → Stored (shorts l) i v (shorts (stores l (2 * i) bs))
-unfolding shorts numbers
-stored_shorts l bs i v h e p =
-    let k : i < length l / 2 = omega (arith, length_shorts l) in
-    rw (length_stores l (2 * i) bs) (stored_read value (length l / 2) 2 l i bs v k e (omega arith) p)
+pub stored_numbers : (w : ℕ) (l bs : List ℕ) (i v : ℕ) → 0 < w → i < length (numbers_of w l) → length bs ≡ w → value bs ≡ v → Stored (numbers_of w l) i v (numbers_of w (stores l (w * i) bs))
+unfolding numbers_of numbers
+stored_numbers w l bs i v z h e p =
+    let k : i < length l / w = omega (arith, length_numbers w l) in
+    rw (length_stores l (w * i) bs) (stored_read value (length l / w) w l i bs v k e (inside w (length l) i z k) p)
 
-pub stored_triples : (l bs : List ℕ) (i v : ℕ) → i < length (triples l) → length bs ≡ 3 → value bs ≡ v → Stored (triples l) i v (triples (stores l (3 * i) bs))
-unfolding triples numbers
-stored_triples l bs i v h e p =
-    let k : i < length l / 3 = omega (arith, length_triples l) in
-    rw (length_stores l (3 * i) bs) (stored_read value (length l / 3) 3 l i bs v k e (omega arith) p)
+-- one byte more, as a loop reads it and stores it
+pub value_more : (w k : ℕ) (l : List ℕ) (j : ℕ) → k < w → value_at (w - k) l j ≡ get_or l j 0 + value_at (w - (k + 1)) l (j + 1) * 256
+value_more w k l j h = let z : w - k ≡ suc (w - (k + 1)) = omega arith in ap (λ (m : ℕ). value_at m l j) z
 
-pub stored_longs : (l bs : List ℕ) (i v : ℕ) → i < length (longs l) → length bs ≡ 4 → value bs ≡ v → Stored (longs l) i v (longs (stores l (4 * i) bs))
-unfolding longs numbers
-stored_longs l bs i v h e p =
-    let k : i < length l / 4 = omega (arith, length_longs l) in
-    rw (length_stores l (4 * i) bs) (stored_read value (length l / 4) 4 l i bs v k e (omega arith) p)
+pub stores_more : (w k : ℕ) (l : List ℕ) (j v : ℕ) → k < w → stores l j (digits (w - k) v) ≡ stores (set l j (v % 256)) (j + 1) (digits (w - (k + 1)) (v / 256))
+stores_more w k l j v h = let z : w - k ≡ suc (w - (k + 1)) = omega arith in ap (λ (m : ℕ). stores l j (digits m v)) z
+
+pub below_more : (w k v b : ℕ) → k < w → v < 256 ^ (w - (k + 1)) → b < 256 → v * 256 + b < 256 ^ (w - k)
+below_more w k v b h p q =
+    let z : w - k ≡ suc (w - (k + 1)) = omega arith in
+    let e = pow-suc 256 (w - (k + 1)) in
+    rw z (omega arith)
+
+-- what seven bytes hold fits a machine number
+pub below_room : (w k v : ℕ) → k < w → w < 8 → v < 256 ^ (w - (k + 1)) → v * 256 + 255 < 2 ^ 64
+below_room w k v h g p =
+    let lt : w - (k + 1) ≤ 6 = omega arith in
+    let a : 256 ^ (w - (k + 1)) ≤ 256 ^ 6 = pow-le-pow_right (lit< tt) lt in
+    omega arith
+
+pub length_digits : (w v : ℕ) → length (digits w v) ≡ w
+length_digits zero v = refl
+length_digits (suc w) v = ap suc (length_digits w (v / 256))
+
+pub value_digits : (w v : ℕ) → v < 256 ^ w → value (digits w v) ≡ v
+value_digits zero v h = omega arith
+value_digits (suc w) v h =
+    let p = pow-suc 256 w in
+    let q : v / 256 < 256 ^ w = omega arith in
+    let r = value_digits w (v / 256) q in
+    omega arith
 
 -- bytes that are all zero are numbers that are all zero
 
@@ -147,23 +172,50 @@ past [] i h = refl
 past (x ∷ l) zero h = absurd (not-suc-le-zero h)
 past (x ∷ l) (suc i) h = past l i (le_of_suc-le-suc h)
 
-pub zero_shorts : (n i : ℕ) → get_or (shorts (replicate n 0)) i 0 ≡ 0
-zero_shorts n i = go (dec_lt i (length (shorts (replicate n 0))))
+pub zero_numbers : (w n i : ℕ) → 0 < w → get_or (numbers_of w (replicate n 0)) i 0 ≡ 0
+zero_numbers w n i z = go (dec_lt i (length (numbers_of w (replicate n 0))))
   where
-    go : Dec (i < length (shorts (replicate n 0))) → get_or (shorts (replicate n 0)) i 0 ≡ 0
-    go (yes h) = get_or_shorts (replicate n 0) i h ∙ zero_at 2 n (2 * i)
-    go (no h) = past (shorts (replicate n 0)) i (omega arith)
+    go : Dec (i < length (numbers_of w (replicate n 0))) → get_or (numbers_of w (replicate n 0)) i 0 ≡ 0
+    go (yes h) = get_or_numbers w (replicate n 0) i z h ∙ zero_at w n (w * i)
+    go (no h) = past (numbers_of w (replicate n 0)) i (omega arith)
+
+-- the laws at the widths that have names
+
+pub length_shorts : (l : List ℕ) → length (shorts l) ≡ length l / 2
+length_shorts = length_numbers 2
+
+pub get_or_shorts : (l : List ℕ) (i : ℕ) → i < length (shorts l) → get_or (shorts l) i 0 ≡ value_at 2 l (2 * i)
+get_or_shorts l i h = get_or_numbers 2 l i (lit< tt) h
+
+pub stored_shorts : (l bs : List ℕ) (i v : ℕ) → i < length (shorts l) → length bs ≡ 2 → value bs ≡ v → Stored (shorts l) i v (shorts (stores l (2 * i) bs))
+stored_shorts l bs i v h e p = stored_numbers 2 l bs i v (lit< tt) h e p
+
+pub zero_shorts : (n i : ℕ) → get_or (shorts (replicate n 0)) i 0 ≡ 0
+zero_shorts n i = zero_numbers 2 n i (lit< tt)
+
+pub length_triples : (l : List ℕ) → length (triples l) ≡ length l / 3
+length_triples = length_numbers 3
+
+pub get_or_triples : (l : List ℕ) (i : ℕ) → i < length (triples l) → get_or (triples l) i 0 ≡ value_at 3 l (3 * i)
+get_or_triples l i h = get_or_numbers 3 l i (lit< tt) h
+
+pub stored_triples : (l bs : List ℕ) (i v : ℕ) → i < length (triples l) → length bs ≡ 3 → value bs ≡ v → Stored (triples l) i v (triples (stores l (3 * i) bs))
+stored_triples l bs i v h e p = stored_numbers 3 l bs i v (lit< tt) h e p
 
 pub zero_triples : (n i : ℕ) → get_or (triples (replicate n 0)) i 0 ≡ 0
-zero_triples n i = go (dec_lt i (length (triples (replicate n 0))))
-  where
-    go : Dec (i < length (triples (replicate n 0))) → get_or (triples (replicate n 0)) i 0 ≡ 0
-    go (yes h) = get_or_triples (replicate n 0) i h ∙ zero_at 3 n (3 * i)
-    go (no h) = past (triples (replicate n 0)) i (omega arith)
+zero_triples n i = zero_numbers 3 n i (lit< tt)
+
+pub length_longs : (l : List ℕ) → length (longs l) ≡ length l / 4
+length_longs = length_numbers 4
+
+pub get_or_longs : (l : List ℕ) (i : ℕ) → i < length (longs l) → get_or (longs l) i 0 ≡ value_at 4 l (4 * i)
+get_or_longs l i h = get_or_numbers 4 l i (lit< tt) h
+
+pub stored_longs : (l bs : List ℕ) (i v : ℕ) → i < length (longs l) → length bs ≡ 4 → value bs ≡ v → Stored (longs l) i v (longs (stores l (4 * i) bs))
+stored_longs l bs i v h e p = stored_numbers 4 l bs i v (lit< tt) h e p
 
 pub zero_longs : (n i : ℕ) → get_or (longs (replicate n 0)) i 0 ≡ 0
-zero_longs n i = go (dec_lt i (length (longs (replicate n 0))))
-  where
-    go : Dec (i < length (longs (replicate n 0))) → get_or (longs (replicate n 0)) i 0 ≡ 0
-    go (yes h) = get_or_longs (replicate n 0) i h ∙ zero_at 4 n (4 * i)
-    go (no h) = past (longs (replicate n 0)) i (omega arith)
+zero_longs n i = zero_numbers 4 n i (lit< tt)
+
+-- how many numbers there are
+pub ruleset sizes = (length_numbers)

@@ -14,15 +14,7 @@ use mem_words::Word;
 fn is_level(w: Word) -> bool
     ensures { result ≡ is_level w }
 {
-    match w {
-        Word::End => false,
-        Word::Free(_) => false,
-        Word::Level(_) => true,
-        Word::Num(_) => false,
-        Word::Place(_) => false,
-        Word::Inner(_) => false,
-        Word::Bad => false,
-    }
+    matches!(w, Word::Level(_))
 }
 
 // Writes the word of `src` at `k`, opened with the `m` words of `vs` from `v` on, as the word of `dst` at `j`. A word that is
@@ -54,9 +46,7 @@ pub fn copy_opened(
     requires { CanCopyOpened (words src.now) from n (words vs.now) v m (words dst.old) at }
     ensures { Copied (words dst.old) at (map (open_word (run v m (words vs.now))) (drop from (words src.now))) n (words dst.new) }
 {
-    let mut i = 0;
-    while i < n {
+    for i in 0..n {
         put_opened(src, from + i, vs, v, m, dst, at + i);
-        i += 1;
     }
 }

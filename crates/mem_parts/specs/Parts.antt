@@ -2,7 +2,7 @@
 use Rattle.std.specs.Prelude.{◌≡◌, refl, List, ◌++◌, ℕ, ◌+◌, ◌-◌, ◌≤◌, ◌<◌, length, replicate, take, drop}
 use Rattle.std.proofs.Common.{ap, sym, ◌∙◌, subst, arith, length-drop, take-append-drop, length-take-le, take_at, drop_at, take-take, drop-drop}
 use Rattle.std.proofs.lemmas.List.{length-replicate, take-append-le, drop-append-le}
-use Rattle.mem_numbers.specs.Numbers.{shorts, triples, longs}
+use Rattle.mem_numbers.specs.Numbers.{numbers_of}
 use Rattle.mem_numbers.specs.Stored.{Stored}
 use borrow.Rule.Slice.PartMut.{put_mid, post_of, take_put, drop_put, same_len_mid, mid_len}
 
@@ -75,33 +75,25 @@ pub record CanSet (a e : ℕ) (L Q : List ℕ) (i bound v : ℕ) : Type 0 where
   pub inside : i < length Q
   pub small : v < bound
 
--- a number of the part was written
-pub record Set2 (a e : ℕ) (L : List ℕ) (i v : ℕ) (X : List ℕ) : Type 0 where
-  pub part : Stored (shorts (cut a e L)) i v (shorts (cut a e X))
+-- a number of w bytes of the part was written
+pub record Set (w a e : ℕ) (L : List ℕ) (i v : ℕ) (X : List ℕ) : Type 0 where
+  pub part : Stored (numbers_of w (cut a e L)) i v (numbers_of w (cut a e X))
   pub rest : Outside a e L X
 
-pub record Set3 (a e : ℕ) (L : List ℕ) (i v : ℕ) (X : List ℕ) : Type 0 where
-  pub part : Stored (triples (cut a e L)) i v (triples (cut a e X))
-  pub rest : Outside a e L X
-
-pub set2_of : (a e : ℕ) (L Y : List ℕ) (i v : ℕ) → a ≤ e → e ≤ length L → length Y ≡ length (cut a e L) → Stored (shorts (cut a e L)) i v (shorts Y) → Set2 a e L i v (put_mid a (e - a) L Y)
-set2_of a e L Y i v h g k s =
+pub set_of : (w a e : ℕ) (L Y : List ℕ) (i v : ℕ) → a ≤ e → e ≤ length L → length Y ≡ length (cut a e L) → Stored (numbers_of w (cut a e L)) i v (numbers_of w Y) → Set w a e L i v (put_mid a (e - a) L Y)
+set_of w a e L Y i v h g k s =
     let l : length Y ≡ e - a = k ∙ length_cut a e L g in
-    record { part = subst (λ (z : List ℕ). Stored (shorts (cut a e L)) i v (shorts z)) (sym (cut_put a e L Y h g l)) s; rest = outside_put a e L Y h g l }
+    record { part = subst (λ (z : List ℕ). Stored (numbers_of w (cut a e L)) i v (numbers_of w z)) (sym (cut_put a e L Y h g l)) s; rest = outside_put a e L Y h g l }
 
-pub set3_of : (a e : ℕ) (L Y : List ℕ) (i v : ℕ) → a ≤ e → e ≤ length L → length Y ≡ length (cut a e L) → Stored (triples (cut a e L)) i v (triples Y) → Set3 a e L i v (put_mid a (e - a) L Y)
-set3_of a e L Y i v h g k s =
-    let l : length Y ≡ e - a = k ∙ length_cut a e L g in
-    record { part = subst (λ (z : List ℕ). Stored (triples (cut a e L)) i v (triples z)) (sym (cut_put a e L Y h g l)) s; rest = outside_put a e L Y h g l }
+-- the same of two, three and four bytes
+abbrev pub Set2 : ℕ → ℕ → List ℕ → ℕ → ℕ → List ℕ → Type 0
+Set2 = Set 2
 
-pub record Set4 (a e : ℕ) (L : List ℕ) (i v : ℕ) (X : List ℕ) : Type 0 where
-  pub part : Stored (longs (cut a e L)) i v (longs (cut a e X))
-  pub rest : Outside a e L X
+abbrev pub Set3 : ℕ → ℕ → List ℕ → ℕ → ℕ → List ℕ → Type 0
+Set3 = Set 3
 
-pub set4_of : (a e : ℕ) (L Y : List ℕ) (i v : ℕ) → a ≤ e → e ≤ length L → length Y ≡ length (cut a e L) → Stored (longs (cut a e L)) i v (longs Y) → Set4 a e L i v (put_mid a (e - a) L Y)
-set4_of a e L Y i v h g k s =
-    let l : length Y ≡ e - a = k ∙ length_cut a e L g in
-    record { part = subst (λ (z : List ℕ). Stored (longs (cut a e L)) i v (longs z)) (sym (cut_put a e L Y h g l)) s; rest = outside_put a e L Y h g l }
+abbrev pub Set4 : ℕ → ℕ → List ℕ → ℕ → ℕ → List ℕ → Type 0
+Set4 = Set 4
 
 -- a part may be made zero, and was
 pub record CanZero (a e : ℕ) (L : List ℕ) : Type 0 where

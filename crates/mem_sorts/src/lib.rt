@@ -5,7 +5,7 @@ ghost use Rattle.std.specs.Prelude.{◌≡◌, ◌<◌};
 ghost use Rattle.mem_sorts.specs.Shapes.{kind_no, sort_no};
 
 // The shapes that are places of a configuration.
-#[derive(Clone, Copy)]
+#[derive(Clone, Copy, Debug, PartialEq, Eq)]
 pub enum Kind {
     Or,
     And,
@@ -17,7 +17,7 @@ pub enum Kind {
 }
 
 // The other shapes that open a bracket: locals, stores, constraints and statements.
-#[derive(Clone, Copy)]
+#[derive(Clone, Copy, Debug, PartialEq, Eq)]
 pub enum Sort {
     Locals,
     Store,

@@ -2,5 +2,5 @@
 #![tactic(auto)]
 
 // A variable's number.
-#[derive(Clone, Copy)]
+#[derive(Clone, Copy, Debug, PartialEq, Eq)]
 pub struct Variable(pub usize);

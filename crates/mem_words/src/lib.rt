@@ -9,7 +9,7 @@ use mem_sorts::{Kind, Sort};
 
 // A word closes a bracket, is a variable, a bound variable's level or a number, or opens a bracket. Each of these has one form
 // in bytes; all other bytes read as `Bad`.
-#[derive(Clone, Copy)]
+#[derive(Clone, Copy, Debug, PartialEq, Eq)]
 pub enum Word {
     End,
     Free(usize),

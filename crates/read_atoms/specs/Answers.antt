@@ -1,5 +1,5 @@
 -- What reading a simple statement leaves: from the words that were written to the answer. Assumes nothing.
-use Rattle.std.specs.Prelude.{◌≡◌, refl, List, map, Bool, true, false, not, ℕ, ◌+◌, ◌*◌, ◌<◌, ◌≤◌, length, take}
+use Rattle.std.specs.Prelude.{◌≡◌, refl, Result, Ok, Err, List, map, Bool, true, false, not, ℕ, ◌+◌, ◌*◌, ◌<◌, ◌≤◌, length, take}
 use Rattle.std.proofs.Common.{ap, sym, ◌∙◌, subst, inl, inr, arith}
 use Rattle.std.proofs.Math.Option.{Option, some, none}
 use Rattle.akl.specs.Base.{Name, once, size, if}
@@ -13,8 +13,9 @@ use Rattle.read_phrases.specs.Codes.{toks}
 use Rattle.read_phrases.specs.Phrases.{Reserved}
 use Rattle.read_emits.specs.Out.{wrote_same}
 use Rattle.read_varwords.specs.Vars.{Spells}
-use Rattle.read_varwords.specs.declared.Vars as enum
-use Rattle.read_varwords.specs.declared.Vars.TheVariants.{Done, Many, Full}
+use Rattle.read_varwords.specs.declared.Vars.{Vars}
+use Rattle.read_varwords.specs.declared.Unwritten.{Unwritten}
+use Rattle.read_varwords.specs.declared.Unwritten.TheVariants.{Many, Full}
 use Rattle.read_pieces.specs.Worst.{Lowest, Lower}
 use Rattle.read_pieces.specs.Effect.{Numbered}
 use Rattle.read_pieces.specs.Reads.{a_simple, Spelling, Scope, CanRead, Finished, ReadTo, around, heads, bound}
@@ -28,10 +29,10 @@ FaultOf true low f = Lower low 6 f
 FaultOf false low f = f ≡ low
 
 -- the answer for words that were written
-abbrev pub AnswerTo : enum.Vars → ℕ → ℕ → Read → Type 0
-AnswerTo (Done o m free) rest low r = (f : ℕ) × (r ≡ read.Done rest o m f) × FaultOf free low f
-AnswerTo Many rest low r = r ≡ read.Three
-AnswerTo Full rest low r = r ≡ read.Full
+abbrev pub AnswerTo : Result Vars Unwritten → ℕ → ℕ → Read → Type 0
+AnswerTo (Ok v) rest low r = (f : ℕ) × (r ≡ read.Done rest v.out v.known f) × FaultOf v.free low f
+AnswerTo (Err Many) rest low r = r ≡ read.Three
+AnswerTo (Err Full) rest low r = r ≡ read.Full
 
 -- the simple statement at `at`: its n words `lay`, its variables `is`, and its refusals, 6 apart
 pub record Subject (query : Bool) (L B D : List ℕ) (at rest n : ℕ) (is : List ℕ) (lay : Lay) (low depth : ℕ) : Type 0 where
@@ -88,23 +89,23 @@ module _ {query : Bool} {L B S Q D : List ℕ} {O : List Word} {at k q level : �
   pub no_room : length O < k + n → length O + 4 * at < k + 4 * length L + 7
   no_room h = omega (arith, s.few, s.inside)
 
-  pub read_to : {O' : List Word} {Q' : List ℕ} (v : enum.Vars) → Parted n is lay O k B Q q query O' Q' v → (r : Read) → AnswerTo v rest low r → ReadTo a_simple query L B S Q D O at k q level depth B S Q' O' r
+  pub read_to : {O' : List Word} {Q' : List ℕ} (v : Result Vars Unwritten) → Parted n is lay O k B Q q query O' Q' v → (r : Read) → AnswerTo v rest low r → ReadTo a_simple query L B S Q D O at k q level depth B S Q' O' r
   read_to {O'} {Q'} v a r g = go v a.to g
     where
-      go : (v : enum.Vars) → PartTo n is lay O k B Q q query O' Q' v → AnswerTo v rest low r → ReadTo a_simple query L B S Q D O at k q level depth B S Q' O' r
-      go (Done o m free) a g = subst (ReadTo a_simple query L B S Q D O at k q level depth B S Q' O') (sym g.1) (finished a g.2)
-      go Many a g = subst (ReadTo a_simple query L B S Q D O at k q level depth B S Q' O') (sym g) (too_many Q' O' a)
-      go Full a g = subst (ReadTo a_simple query L B S Q D O at k q level depth B S Q' O') (sym g) (inl (no_room a))
+      go : (v : Result Vars Unwritten) → PartTo n is lay O k B Q q query O' Q' v → AnswerTo v rest low r → ReadTo a_simple query L B S Q D O at k q level depth B S Q' O' r
+      go (Ok v) a g = subst (ReadTo a_simple query L B S Q D O at k q level depth B S Q' O') (sym g.1) (finished a g.2)
+      go (Err Many) a g = subst (ReadTo a_simple query L B S Q D O at k q level depth B S Q' O') (sym g) (too_many Q' O' a)
+      go (Err Full) a g = subst (ReadTo a_simple query L B S Q D O at k q level depth B S Q' O') (sym g) (inl (no_room a))
 
 -- the answer, case by case
-pub answered : {v : enum.Vars} {o m : ℕ} (free : Bool) (rest low f : ℕ) → v ≡ Done o m free → FaultOf free low f → AnswerTo v rest low (read.Done rest o m f)
-answered {v} {o} {m} free rest low f e g = subst (λ (v : enum.Vars). AnswerTo v rest low (read.Done rest o m f)) (sym e) (f, refl, g)
+pub answered : {v : Result Vars Unwritten} {u : Vars} (rest low f : ℕ) → v ≡ Ok u → FaultOf u.free low f → AnswerTo v rest low (read.Done rest u.out u.known f)
+answered {v} {u} rest low f e g = subst (λ (v : Result Vars Unwritten). AnswerTo v rest low (read.Done rest u.out u.known f)) (sym e) (f, refl, g)
 
-pub answered_many : {v : enum.Vars} (rest low : ℕ) → v ≡ Many → AnswerTo v rest low read.Three
-answered_many {v} rest low e = subst (λ (v : enum.Vars). AnswerTo v rest low read.Three) (sym e) refl
+pub answered_many : {v : Result Vars Unwritten} (rest low : ℕ) → v ≡ Err Many → AnswerTo v rest low read.Three
+answered_many {v} rest low e = subst (λ (v : Result Vars Unwritten). AnswerTo v rest low read.Three) (sym e) refl
 
-pub answered_full : {v : enum.Vars} (rest low : ℕ) → v ≡ Full → AnswerTo v rest low read.Full
-answered_full {v} rest low e = subst (λ (v : enum.Vars). AnswerTo v rest low read.Full) (sym e) refl
+pub answered_full : {v : Result Vars Unwritten} (rest low : ℕ) → v ≡ Err Full → AnswerTo v rest low read.Full
+answered_full {v} rest low e = subst (λ (v : Result Vars Unwritten). AnswerTo v rest low read.Full) (sym e) refl
 
 pub fault_free : {b : Bool} (low : ℕ) {f : ℕ} → b ≡ true → Lower low 6 f → FaultOf b low f
 fault_free {b} low {f} e g = subst (λ (b : Bool). FaultOf b low f) (sym e) g

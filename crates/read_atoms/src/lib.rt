@@ -10,22 +10,15 @@ ghost use Rattle.read_atoms.specs.Subjects.{ConstraintRead, ProgramRead, missing
 
 use read_phrases::Constraint;
 use read_pieces::Read;
-use read_varwords::Vars;
+use read_varwords::{Unwritten, Vars};
 
 // How many arguments a constraint's label has.
 fn arguments(kind: Constraint) -> usize
     ensures { result ≡ arguments_of kind }
 {
     match kind {
-        Constraint::True => 0,
-        Constraint::Fail => 0,
-        Constraint::Same { left: _, right: _ } => 0,
-        Constraint::Made {
-            var: _,
-            label: _,
-            first: _,
-            count,
-        } => count,
+        Constraint::Made { count, .. } => count,
+        _ => 0,
     }
 }
 
@@ -40,21 +33,23 @@ fn lowest(free: bool, low: usize) -> usize
 }
 
 // The answer for words that were written.
-fn answer(v: Vars, rest: usize, low: usize) -> Read
+fn answer(v: Result<Vars, Unwritten>, rest: usize, low: usize) -> Read
     ensures { AnswerTo v rest low result }
 {
     match v {
-        Vars::Done { out, known, free } => {
-            let f = lowest(free, low);
+        Ok(u) => {
+            let f = lowest(u.free, low);
             Read::Done {
                 at: rest,
-                out,
-                known,
+                out: u.out,
+                known: u.known,
                 fault: f,
             }
         }
-        Vars::Many => Read::Three,
-        Vars::Full => Read::Full,
+        Err(e) => match e {
+            Unwritten::Many => Read::Three,
+            Unwritten::Full => Read::Full,
+        },
     }
 }
 
@@ -84,7 +79,7 @@ pub fn constraint(
 fn missing(heads: &[u8], head: usize) -> usize
     ensures { result ≡ missing_of head (triples heads.now) }
 {
-    let n = mem_numbers::triple_count(heads);
+    let n = mem_numbers::count::<3>(heads);
     if read_lookups::listed(heads, n, head) {
         return 8;
     }

@@ -12,7 +12,7 @@ use read_inputs::Inputs;
 fn counted(counts: &mut [u8], a: usize, b: usize, c: usize, d: usize, e: usize) -> bool
     ensures { Written (longs counts.old) a b c d e (longs counts.new) result }
 {
-    if mem_longs::long_count(counts) < 5 {
+    if mem_numbers::count::<4>(counts) < 5 {
         return false;
     }
     if 4294967295 < a {
@@ -30,11 +30,11 @@ fn counted(counts: &mut [u8], a: usize, b: usize, c: usize, d: usize, e: usize) 
     if 4294967295 < e {
         return false;
     }
-    mem_longs::long_put(counts, 0, a);
-    mem_longs::long_put(counts, 1, b);
-    mem_longs::long_put(counts, 2, c);
-    mem_longs::long_put(counts, 3, d);
-    mem_longs::long_put(counts, 4, e);
+    mem_numbers::put::<4>(counts, 0, a);
+    mem_numbers::put::<4>(counts, 1, b);
+    mem_numbers::put::<4>(counts, 2, c);
+    mem_numbers::put::<4>(counts, 3, d);
+    mem_numbers::put::<4>(counts, 4, e);
     true
 }
 
@@ -59,7 +59,7 @@ pub extern "C" fn texts_read(
 ) -> u32
     ensures { Numbered (InputsTo program.now query.now (triples cells.old) (triples heads.old) (words rules.old) (shorts order.old) (words goal.old) (triples codes.old) (shorts firsts.old) (shorts nexts.old) stack.old (shorts binds.old) (shorts saves.old) (triples cells.new) (triples heads.new) (words rules.new) (shorts order.new) (words goal.new)) (longs counts.old) (longs counts.new) result }
 {
-    if mem_longs::long_count(counts) < 5 {
+    if mem_numbers::count::<4>(counts) < 5 {
         return 20;
     }
     let r = read_both::read(
@@ -78,7 +78,7 @@ pub extern "C" fn texts_read(
             }
             22
         }
-        Inputs::Refused(f) => refusals::number(f),
+        Inputs::Refused(f) => f.number(),
         Inputs::Short => 21,
     }
 }

@@ -19,7 +19,7 @@ pub fn bodies(
     requires { CanBodies (triples codes.now) (shorts binds.old) (shorts order.old) (triples heads.now) }
     ensures { Bodies (triples codes.now) (shorts binds.old) (shorts saves.old) (shorts order.old) (triples heads.now) (words out.old) (words out.new) result }
 {
-    let n = mem_numbers::triple_count(codes);
+    let n = mem_numbers::count::<3>(codes);
     let mut i = 0;
     let mut k = 0;
     let mut f = 8;

@@ -6,7 +6,7 @@ ghost use Rattle.akl.specs.Token.{class_of, word_class, digit_class};
 ghost use Rattle.read_bytes.specs.Meant.{class};
 
 // The classes of bytes.
-#[derive(Clone, Copy)]
+#[derive(Clone, Copy, Debug, PartialEq, Eq)]
 pub enum Class {
     Small,
     Capital,
@@ -36,30 +36,15 @@ pub fn class_of(b: u8) -> Class
 pub fn is_word(b: u8) -> bool
     ensures { result ≡ word_class (class_of b) }
 {
-    let c = class_of(b);
-    match c {
-        Class::Small => true,
-        Class::Capital => true,
-        Class::Digit => true,
-        Class::Underscore => true,
-        Class::Blank => false,
-        Class::Mark => false,
-        Class::Other => false,
-    }
+    matches!(
+        class_of(b),
+        Class::Small | Class::Capital | Class::Digit | Class::Underscore
+    )
 }
 
 // Whether a byte is a digit.
 pub fn is_digit(b: u8) -> bool
     ensures { result ≡ digit_class (class_of b) }
 {
-    let c = class_of(b);
-    match c {
-        Class::Digit => true,
-        Class::Small => false,
-        Class::Capital => false,
-        Class::Underscore => false,
-        Class::Blank => false,
-        Class::Mark => false,
-        Class::Other => false,
-    }
+    matches!(class_of(b), Class::Digit)
 }

@@ -172,7 +172,7 @@ fn answer(program: &[u8], query: &[u8]) {
         }
         Inputs::Refused(f) => {
             io::write_all(STDOUT, b"refusal ");
-            io::print_decimal(STDOUT, refusals::number(f) as u64);
+            io::print_decimal(STDOUT, f.number() as u64);
             io::write_all(STDOUT, b"\n");
         }
         Inputs::Short => {

@@ -11,15 +11,7 @@ use mem_words::Word;
 fn empty(w: Word) -> bool
     ensures { result ≡ is_bad w }
 {
-    match w {
-        Word::End => false,
-        Word::Free(_) => false,
-        Word::Level(_) => false,
-        Word::Num(_) => false,
-        Word::Place(_) => false,
-        Word::Inner(_) => false,
-        Word::Bad => true,
-    }
+    matches!(w, Word::Bad)
 }
 
 // Drops the empty slots among the first `n` words, and hands back how many words are left.
@@ -27,15 +19,14 @@ pub fn compact(out: &mut [u8], n: usize) -> usize
     requires { n ≤ length (words out.old) }
     ensures { Compacted (words out.old) n (words out.new) result }
 {
-    let mut i = 0;
     let mut r = 0;
-    while i < n {
+    for i in 0..n {
         let w = mem_get::get(out, i);
-        i += 1;
-        if !empty(w) {
-            mem_put::put(out, r, w);
-            r += 1;
+        if empty(w) {
+            continue;
         }
+        mem_put::put(out, r, w);
+        r += 1;
     }
     r
 }

@@ -31,12 +31,10 @@ pub fn ends(out: &mut [u8], k: usize, c: usize) -> Emitted
     requires { k ≤ length (words out.old) }
     ensures { EndsTo (words out.old) k c (words out.new) result }
 {
-    let mut j = 0;
-    while j < c {
+    for j in 0..c {
         if !emit(out, k + j, Word::End) {
             return Emitted::Full;
         }
-        j += 1;
     }
     Emitted::To(k + c)
 }

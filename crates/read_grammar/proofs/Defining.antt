@@ -28,10 +28,9 @@ use Rattle.read_phrases.specs.declared.Constraint.{Constraint}
 use Rattle.read_phrases.specs.declared.Simple.TheVariants.{Atom, Program, Bracket, Odd as NoSimple}
 use Rattle.read_statements.specs.Statements.{frames, Says, Forward, Followed, Stepped, StatementTo}
 use Rattle.read_grammar.specs.Grammar.{DefinitionTo, QueryIs, ProgramIs}
-use Rattle.read_statements.specs.declared.Onward.{Onward}
-use Rattle.read_statements.specs.declared.Onward.TheVariants.{Next, Done, Odd, Full}
-use Rattle.read_statements.specs.declared.End.TheVariants.{To as Ends, None, Short}
-use Rattle.read_grammar.specs.declared.Verdict.TheVariants.{Of, NotOf, NoRoom}
+use Rattle.std.specs.Prelude as std
+use Rattle.read_statements.specs.declared.Unparsed.{Unparsed}
+use Rattle.read_statements.specs.declared.Unparsed.TheVariants.{Odd, Short}
 
 -- whether a name is allowed, by its number
 allowed_is : (w : ℕ → Name) (L : List ℕ) (at : ℕ) (u : List Token) → Reserved w L → kind_at L at ≡ 0 → (t f : Bool) → eqb (number_at L at) 4 ≡ t → eqb (number_at L at) 8 ≡ f → allowed (w (number_at L at), u) ≡ when (not (t || f)) (w (number_at L at), u)
@@ -47,7 +46,7 @@ no_fail true a = refl
 no_fail false a = refl
 
 module _ (L S : List ℕ) (at : ℕ) where
-  pub definition_odd : (kind_at L at ≡ 0 → ⊥) → DefinitionTo L S at None
+  pub definition_odd : (kind_at L at ≡ 0 → ⊥) → DefinitionTo L S at (std.Err Odd)
   definition_odd h w r = definition_no_name (toks w L at) (name_not w L at h)
 
   -- what follows the name
@@ -57,37 +56,41 @@ module _ (L S : List ℕ) (at : ℕ) where
   from_name : (w : ℕ → Name) → kind_at L at ≡ 0 → the_definition (toks w L at) ≡ (allowed (w (number_at L at), toks w L (at + 1)) >>= λ q. Behind w)
   from_name w h = definition_named (toks w L at) (toks w L (at + 1)) (w (number_at L at)) (name_here w L at h)
 
-  pub definition_true : (n : ℕ) → kind_at L at ≡ 0 → n ≡ number_at L at → n ≡ 4 → DefinitionTo L S at None
+  pub definition_true : (n : ℕ) → kind_at L at ≡ 0 → n ≡ number_at L at → n ≡ 4 → DefinitionTo L S at (std.Err Odd)
   definition_true n h e z w r = from_name w h ∙ no_more_read (allowed (w (number_at L at), toks w L (at + 1))) _ (allowed_is w L at (toks w L (at + 1)) r h true (eqb (number_at L at) 8) (eq-eqb (number_at L at) 4 (sym e ∙ z)) refl)
 
-  pub definition_fail : (n : ℕ) → kind_at L at ≡ 0 → n ≡ number_at L at → n ≡ 8 → DefinitionTo L S at None
+  pub definition_fail : (n : ℕ) → kind_at L at ≡ 0 → n ≡ number_at L at → n ≡ 8 → DefinitionTo L S at (std.Err Odd)
   definition_fail n h e z w r = from_name w h ∙ no_more_read (allowed (w (number_at L at), toks w L (at + 1))) _ (allowed_is w L at (toks w L (at + 1)) r h (eqb (number_at L at) 4) true refl (eq-eqb (number_at L at) 8 (sym e ∙ z)) ∙ no_fail (eqb (number_at L at) 4) (w (number_at L at), toks w L (at + 1)))
 
   module _ (n : ℕ) (h : kind_at L at ≡ 0) (is : n ≡ number_at L at) (n4 : n ≡ 4 → ⊥) (n8 : n ≡ 8 → ⊥) where
     from_allowed : (w : ℕ → Name) → Reserved w L → the_definition (toks w L at) ≡ Behind w
     from_allowed w r = from_name w h ∙ read_on (allowed (w (number_at L at), toks w L (at + 1))) (w (number_at L at), toks w L (at + 1)) _ (allowed_is w L at (toks w L (at + 1)) r h false false (ne_eqb (number_at L at) 4 (λ z. n4 (is ∙ z))) (ne_eqb (number_at L at) 8 (λ z. n8 (is ∙ z))))
 
-    pub definition_arguments_odd : ArgumentsTo L (at + 1) NoPhrase → DefinitionTo L S at None
+    pub definition_arguments_odd : ArgumentsTo L (at + 1) NoPhrase → DefinitionTo L S at (std.Err Odd)
     definition_arguments_odd a w r = from_allowed w r ∙ no_more_read (the_arguments (toks w L (at + 1))) _ (a w)
 
     module _ (rest count : ℕ) (a : ArgumentsTo L (at + 1) (To rest count)) where
       pub from_arguments : (w : ℕ → Name) → Reserved w L → the_definition (toks w L at) ≡ (after defines (toks w L rest) >>= λ r. the_statement r >>= λ s. after full_stop s.1 >>= λ v. some (record { head = w (number_at L at); parameters = p.names w L count (at + 1 + 1); statement = s.0 }, v))
       from_arguments w r = from_allowed w r ∙ read_on (the_arguments (toks w L (at + 1))) _ _ (a.reads w)
 
-      pub definition_undefined : (kind_at L rest ≡ 8 → ⊥) → DefinitionTo L S at None
+      pub definition_undefined : (kind_at L rest ≡ 8 → ⊥) → DefinitionTo L S at (std.Err Odd)
       definition_undefined d w r = from_arguments w r ∙ no_more_read (after defines (toks w L rest)) _ (mark_not w L rest defines d)
 
       module _ (d : kind_at L rest ≡ 8) where
         pub from_defines : (w : ℕ → Name) → Reserved w L → the_definition (toks w L at) ≡ (the_statement (toks w L (rest + 1)) >>= λ s. after full_stop s.1 >>= λ v. some (record { head = w (number_at L at); parameters = p.names w L count (at + 1 + 1); statement = s.0 }, v))
         from_defines w r = from_arguments w r ∙ read_on (after defines (toks w L rest)) _ _ (mark_here w L rest defines d)
 
-        pub definition_statement_odd : StatementTo L S (rest + 1) None → DefinitionTo L S at None
+        pub definition_statement_odd : StatementTo L S (rest + 1) (std.Err Odd) → DefinitionTo L S at (std.Err Odd)
         definition_statement_odd s w r = from_defines w r ∙ no_more_read (the_statement (toks w L (rest + 1))) _ (s w r)
 
-        pub definition_unstopped : (end : ℕ) → StatementTo L S (rest + 1) (Ends end) → (kind_at L end ≡ 6 → ⊥) → DefinitionTo L S at None
+        pub definition_err : (e : Unparsed) → StatementTo L S (rest + 1) (std.Err e) → DefinitionTo L S at (std.Err e)
+        definition_err Odd s = definition_statement_odd s
+        definition_err Short s = s
+
+        pub definition_unstopped : (end : ℕ) → StatementTo L S (rest + 1) (std.Ok end) → (kind_at L end ≡ 6 → ⊥) → DefinitionTo L S at (std.Err Odd)
         definition_unstopped end s k w r = from_defines w r ∙ read_on (the_statement (toks w L (rest + 1))) _ _ (s.2 w r).1 ∙ no_more_read (after full_stop (toks w L end)) _ (mark_not w L end full_stop k)
 
-        pub definition_whole : (end : ℕ) → StatementTo L S (rest + 1) (Ends end) → kind_at L end ≡ 6 → DefinitionTo L S at (Ends (end + 1))
+        pub definition_whole : (end : ℕ) → StatementTo L S (rest + 1) (std.Ok end) → kind_at L end ≡ 6 → DefinitionTo L S at (std.Ok (end + 1))
         definition_whole end s k =
             let i = kind_inside L end (omega arith) in
             let b = s.0 in
@@ -119,7 +122,7 @@ NotEmpty [] = ⊥
 NotEmpty (t ∷ ts) = Unit {0}
 
 module _ (L S₀ S S' : List ℕ) (i : ℕ) (so_far : Defined L (length S₀) S i) where
-  pub defined_next : (rest : ℕ) → length S' ≡ length S → DefinitionTo L S i (Ends rest) → Defined L (length S₀) S' rest
+  pub defined_next : (rest : ℕ) → length S' ≡ length S → DefinitionTo L S i (std.Ok rest) → Defined L (length S₀) S' rest
   defined_next rest l d = record {
     size = l ∙ so_far.size;
     inside = d.1;
@@ -129,19 +132,23 @@ module _ (L S₀ S S' : List ℕ) (i : ℕ) (so_far : Defined L (length S₀) S 
         ((λ ds. q.0 (e.0 ∷ ds)), q.1 ∙ ap (λ (o : Option (List Definition)). o >>= λ ds. some (q.0 ds)) (program_more (toks w L i) (toks w L rest) e.0 e.1) ∙ assoc (parse_program (toks w L rest)) (λ ds. e.0 ∷ ds) q.0));
   }
 
-  pub defined_less : (rest : ℕ) → DefinitionTo L S i (Ends rest) → length L - rest < length L - i
+  pub defined_less : (rest : ℕ) → DefinitionTo L S i (std.Ok rest) → length L - rest < length L - i
   defined_less rest d = omega (arith, d.0, d.1)
 
-  pub defined_odd : i < length L → DefinitionTo L S i None → ProgramIs L S₀ NotOf
+  pub defined_odd : i < length L → DefinitionTo L S i (std.Err Odd) → ProgramIs L S₀ (std.Err Odd)
   defined_odd h d w r =
       let q = so_far.reads w r in
       let t = toks_some w L i h in
       q.1 ∙ no_more_read (parse_program (toks w L i)) _ (program_none (toks w L i) (subst NotEmpty (sym t.1) tt) (d w r))
 
-  pub defined_short : DefinitionTo L S i Short → ProgramIs L S₀ NoRoom
+  pub defined_short : DefinitionTo L S i (std.Err Short) → ProgramIs L S₀ (std.Err Short)
   defined_short d = omega (arith, so_far.size, d)
 
-  pub defined_whole : length L ≤ i → ProgramIs L S₀ Of
+  pub defined_err : i < length L → (e : Unparsed) → DefinitionTo L S i (std.Err e) → ProgramIs L S₀ (std.Err e)
+  defined_err h Odd d = defined_odd h d
+  defined_err h Short d = defined_short d
+
+  pub defined_whole : length L ≤ i → ProgramIs L S₀ (std.Ok tt)
   defined_whole h w r =
       let q = so_far.reads w r in
       (q.0 [], q.1 ∙ ap (λ (ts : List Token). parse_program ts >>= λ ds. some (q.0 ds)) (toks_none w L i h) ∙ ap (λ (o : Option (List Definition)). o >>= λ ds. some (q.0 ds)) program_empty)

@@ -6,30 +6,22 @@ ghost use Rattle.read_phrases.specs.Codes.{Known};
 ghost use Rattle.read_grammar.specs.Grammar.{DefinitionTo};
 
 use read_phrases::Phrase;
-use read_statements::End;
-
-// Whether a text is of the grammar; or the stack is too short.
-#[derive(Clone, Copy)]
-pub enum Verdict {
-    Of,
-    NotOf,
-    NoRoom,
-}
+use read_statements::Unparsed;
 
 // Where the definition that begins at `at` ends. The names `true` and `fail` have the numbers 4 and 8.
-pub fn definition_end(codes: &[u8], stack: &mut [u8], at: usize) -> End
+pub fn definition_end(codes: &[u8], stack: &mut [u8], at: usize) -> Result<usize, Unparsed>
     requires { Known (triples codes.now) }
     ensures { DefinitionTo (triples codes.now) stack.old at result }
 {
     if read_phrases::kind_at(codes, at) != 0 {
-        return End::None;
+        return Err(Unparsed::Odd);
     }
     let name = read_phrases::number_at(codes, at);
     if name == 4 {
-        return End::None;
+        return Err(Unparsed::Odd);
     }
     if name == 8 {
-        return End::None;
+        return Err(Unparsed::Odd);
     }
     let p = read_ends::arguments_end(codes, at + 1);
     match p {
@@ -38,20 +30,14 @@ pub fn definition_end(codes: &[u8], stack: &mut [u8], at: usize) -> End
             count: _count,
         } => {
             if read_phrases::kind_at(codes, rest) != 8 {
-                return End::None;
+                return Err(Unparsed::Odd);
             }
-            let e = read_statements::statement_end(codes, stack, rest + 1);
-            match e {
-                End::To(end) => {
-                    if read_phrases::kind_at(codes, end) != 6 {
-                        return End::None;
-                    }
-                    End::To(end + 1)
-                }
-                End::None => End::None,
-                End::Short => End::Short,
+            let end = read_statements::statement_end(codes, stack, rest + 1)?;
+            if read_phrases::kind_at(codes, end) != 6 {
+                return Err(Unparsed::Odd);
             }
+            Ok(end + 1)
         }
-        Phrase::Odd => End::None,
+        Phrase::Odd => Err(Unparsed::Odd),
     }
 }

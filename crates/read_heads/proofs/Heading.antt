@@ -28,7 +28,7 @@ use Rattle.read_phrases.specs.Phrases.{names, Reserved, ArgumentsTo}
 use Rattle.read_phrases.specs.declared.Phrase.TheVariants.{To, Odd as NoPhrase}
 use Rattle.read_phrases.proofs.Reading.{names_size}
 use Rattle.read_grammar.specs.Grammar.{DefinitionTo}
-use Rattle.read_statements.specs.declared.End.TheVariants.{To as Ends, None, Short as NoStack}
+use Rattle.std.specs.Prelude as std
 use Rattle.read_grammar.proofs.Defining.{from_arguments, definition_odd, definition_true, definition_fail, definition_arguments_odd}
 use Rattle.read_lookups.specs.Places.{among, repeated, repeated_more, repeated_none}
 use Rattle.read_pieces.specs.Reads.{heads}
@@ -75,7 +75,7 @@ module _ (L : List ℕ) (at : ℕ) (w : ℕ → Name) (r : Reserved w L) (d : De
       made : Statement → Definition
       made s = record { head = w (number_at L at); parameters = names w L count (at + 1 + 1); statement = s }
 
-module _ (L T : List ℕ) (at end : ℕ) (can : CanHead L) (d : DefinitionTo L T at (Ends end)) (n : ℕ) (is : n ≡ number_at L at) where
+module _ (L T : List ℕ) (at end : ℕ) (can : CanHead L) (d : DefinitionTo L T at (std.Ok end)) (n : ℕ) (is : n ≡ number_at L at) where
   pub one_odd : ArgumentsTo L (at + 1) NoPhrase → HeadTo L T at head.Odd
   one_odd a w r = absurd (let q = d.2 w r in head_arguments L at w r q.0 (toks w L end) q.1 a)
 

@@ -6,7 +6,7 @@ ghost use Rattle.mem_numbers.specs.Numbers.{triples};
 ghost use Rattle.read_heads.specs.Heads.{CanHead, HeadTo, HeadedTo};
 
 use read_phrases::Phrase;
-use read_statements::End;
+use read_statements::Unparsed;
 
 // A definition's head and where the definition ends; or it has too many parameters; there is none; or the stack is too short.
 #[derive(Clone, Copy)]
@@ -34,7 +34,7 @@ fn head_at(codes: &[u8], stack: &mut [u8], at: usize) -> Head
 {
     let e = read_grammar::definition_end(codes, stack, at);
     match e {
-        End::To(rest) => {
+        Ok(rest) => {
             let name = read_phrases::number_at(codes, at);
             let p = read_ends::arguments_end(codes, at + 1);
             match p {
@@ -50,8 +50,8 @@ fn head_at(codes: &[u8], stack: &mut [u8], at: usize) -> Head
                 Phrase::Odd => Head::Odd,
             }
         }
-        End::None => Head::Odd,
-        End::Short => Head::Short,
+        Err(Unparsed::Odd) => Head::Odd,
+        Err(Unparsed::Short) => Head::Short,
     }
 }
 
@@ -60,8 +60,8 @@ pub fn heads_of(codes: &[u8], stack: &mut [u8], heads: &mut [u8]) -> Headed
     requires { CanHead (triples codes.now) }
     ensures { HeadedTo (triples codes.now) stack.old (triples heads.old) (triples heads.new) result }
 {
-    let n = mem_numbers::triple_count(codes);
-    let room = mem_numbers::triple_count(heads);
+    let n = mem_numbers::count::<3>(codes);
+    let room = mem_numbers::count::<3>(heads);
     let mut i = 0;
     let mut k = 0;
     let mut twice = false;
@@ -76,7 +76,7 @@ pub fn heads_of(codes: &[u8], stack: &mut [u8], heads: &mut [u8]) -> Headed
         match h {
             Head::At { head, rest } => {
                 let again = read_lookups::listed(heads, k, head);
-                mem_numbers::triple_put(heads, k, head);
+                mem_numbers::put::<3>(heads, k, head);
                 k += 1;
                 i = rest;
                 if again {

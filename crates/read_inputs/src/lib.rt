@@ -30,9 +30,9 @@ pub fn clear(
 )
     ensures { (cells.new ≡ replicate (length cells.old) 0) × (heads.new ≡ replicate (length heads.old) 0) × (rules.new ≡ replicate (length rules.old) 0) × (order.new ≡ replicate (length order.old) 0) × (goal.new ≡ replicate (length goal.old) 0) }
 {
-    mem_numbers::fill_zero(cells);
-    mem_numbers::fill_zero(heads);
-    mem_numbers::fill_zero(rules);
-    mem_numbers::fill_zero(order);
-    mem_numbers::fill_zero(goal);
+    cells.fill(0);
+    heads.fill(0);
+    rules.fill(0);
+    order.fill(0);
+    goal.fill(0);
 }

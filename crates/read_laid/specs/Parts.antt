@@ -1,6 +1,6 @@
 -- Words written one after another, some of them those of variables. `is` are the numbers of the variables' names, in order;
 -- `lay` says what the words are, once the variables are known. Assumes nothing.
-use Rattle.std.specs.Prelude.{◌≡◌, refl, List, ◌∷◌, ◌++◌, map, [], Bool, true, false, not, ◌||◌, ℕ, ◌+◌, ◌*◌, ◌/◌, ◌<◌, ◌≤◌, length, get_or, take}
+use Rattle.std.specs.Prelude.{◌≡◌, refl, Result, Ok, Err, List, ◌∷◌, ◌++◌, map, [], Bool, true, false, not, ◌||◌, ℕ, ◌+◌, ◌*◌, ◌/◌, ◌<◌, ◌≤◌, length, get_or, take}
 use Rattle.std.proofs.Common.{ap, ap₂, sym, ◌∙◌, subst, arith}
 use Rattle.std.proofs.lemmas.List.{map-append}
 use Rattle.std.proofs.Math.Option.{some}
@@ -13,8 +13,9 @@ use Rattle.read_emits.specs.Out.{Solid, Wrote, wrote_then, wrote_same, wrote_wor
 use Rattle.read_varwords.specs.Names.{once_append, flat_append, any_append, size_once}
 use Rattle.read_emits.specs.TheirContracts.{Emits}
 use Rattle.read_varwords.specs.Vars.{Spells, Below, VarsDone, VarsMany}
-use Rattle.read_varwords.specs.declared.Vars as enum
-use Rattle.read_varwords.specs.declared.Vars.TheVariants.{Done, Many, Full}
+use Rattle.read_varwords.specs.declared.Vars.{Vars}
+use Rattle.read_varwords.specs.declared.Unwritten.{Unwritten}
+use Rattle.read_varwords.specs.declared.Unwritten.TheVariants.{Many, Full}
 use Rattle.read_pieces.specs.Effect.{Final, Numbered, final_back}
 use Rattle.read_pieces.specs.Reads.{Spelling, bound}
 
@@ -57,13 +58,13 @@ pub record TooMany (is B Q : List ℕ) (q : ℕ) (query : Bool) : Type 0 where
   pub asks : query ≡ true
   pub many : (w : ℕ → Name) (num : Name → ℕ) (E : List ℕ) → Spelling w num (length B) → Spells w B E → 16 < size (once (map w (take q Q)) (not_bound (map w E) (map w is)))
 
-abbrev pub PartTo : ℕ → List ℕ → Lay → List Word → ℕ → List ℕ → List ℕ → ℕ → Bool → List Word → List ℕ → enum.Vars → Type 0
-PartTo n is lay O k B Q q query O' Q' (Done k' q' free) = Part n is lay O k B Q q query O' Q' k' q' free
-PartTo n is lay O k B Q q query O' Q' Many = TooMany is B Q q query
-PartTo n is lay O k B Q q query O' Q' Full = length O < k + n
+abbrev pub PartTo : ℕ → List ℕ → Lay → List Word → ℕ → List ℕ → List ℕ → ℕ → Bool → List Word → List ℕ → Result Vars Unwritten → Type 0
+PartTo n is lay O k B Q q query O' Q' (Ok v) = Part n is lay O k B Q q query O' Q' v.out v.known v.free
+PartTo n is lay O k B Q q query O' Q' (Err Many) = TooMany is B Q q query
+PartTo n is lay O k B Q q query O' Q' (Err Full) = length O < k + n
 
 -- What a function that writes such words promises of its answer.
-pub record Parted (n : ℕ) (is : List ℕ) (lay : Lay) (O : List Word) (k : ℕ) (B Q : List ℕ) (q : ℕ) (query : Bool) (O' : List Word) (Q' : List ℕ) (r : enum.Vars) : Type 0 where
+pub record Parted (n : ℕ) (is : List ℕ) (lay : Lay) (O : List Word) (k : ℕ) (B Q : List ℕ) (q : ℕ) (query : Bool) (O' : List Word) (Q' : List ℕ) (r : Result Vars Unwritten) : Type 0 where
   pub to : PartTo n is lay O k B Q q query O' Q' r
 
 -- ---------------------------------------------------------------------------------------------

@@ -11,7 +11,7 @@ ghost use Rattle.read_laid.specs.Shapes.{bare_lay, lead_lay, last_lay, tail_lay,
 use mem_sorts::Sort;
 use mem_words::Word;
 use read_phrases::Constraint;
-use read_varwords::Vars;
+use read_varwords::{Unwritten, Vars};
 
 // The two words of a constraint without variables.
 fn bare(
@@ -22,21 +22,21 @@ fn bare(
     order: &mut [u8],
     q: usize,
     query: bool,
-) -> Vars
+) -> Result<Vars, Unwritten>
     requires { Tables (shorts binds.now) (shorts order.old) (words out.old) k q }
     ensures { Parted 2 [] (bare_lay sort) (words out.old) k (shorts binds.now) (shorts order.old) q query (words out.new) (shorts order.new) result }
 {
     if !read_emits::emit(out, k, Word::Inner(sort)) {
-        return Vars::Full;
+        return Err(Unwritten::Full);
     }
     if !read_emits::emit(out, k + 1, Word::End) {
-        return Vars::Full;
+        return Err(Unwritten::Full);
     }
-    Vars::Done {
+    Ok(Vars {
         out: k + 2,
         known: q,
         free: false,
-    }
+    })
 }
 
 // A first word, and that of a variable.
@@ -49,12 +49,12 @@ fn lead(
     order: &mut [u8],
     q: usize,
     query: bool,
-) -> Vars
+) -> Result<Vars, Unwritten>
     requires { Tables (shorts binds.now) (shorts order.old) (words out.old) k q × (id < length (shorts binds.now)) }
     ensures { Parted 2 (id ∷ []) (lead_lay sort id) (words out.old) k (shorts binds.now) (shorts order.old) q query (words out.new) (shorts order.new) result }
 {
     if !read_emits::emit(out, k, Word::Inner(sort)) {
-        return Vars::Full;
+        return Err(Unwritten::Full);
     }
     read_varwords::variable(id, out, k + 1, binds, order, q, query)
 }
@@ -68,29 +68,18 @@ fn last(
     order: &mut [u8],
     q: usize,
     query: bool,
-) -> Vars
+) -> Result<Vars, Unwritten>
     requires { Tables (shorts binds.now) (shorts order.old) (words out.old) k q × (id < length (shorts binds.now)) }
     ensures { Parted 2 (id ∷ []) (last_lay id) (words out.old) k (shorts binds.now) (shorts order.old) q query (words out.new) (shorts order.new) result }
 {
-    let v = read_varwords::variable(id, out, k, binds, order, q, query);
-    match v {
-        Vars::Done {
-            out: o,
-            known,
-            free,
-        } => {
-            if !read_emits::emit(out, o, Word::End) {
-                return Vars::Full;
-            }
-            Vars::Done {
-                out: o + 1,
-                known,
-                free,
-            }
-        }
-        Vars::Many => Vars::Many,
-        Vars::Full => Vars::Full,
+    let v = read_varwords::variable(id, out, k, binds, order, q, query)?;
+    if !read_emits::emit(out, v.out, Word::End) {
+        return Err(Unwritten::Full);
     }
+    Ok(Vars {
+        out: v.out + 1,
+        ..v
+    })
 }
 
 // The words of arguments, and the end.
@@ -104,29 +93,18 @@ fn tail(
     order: &mut [u8],
     q: usize,
     query: bool,
-) -> Vars
+) -> Result<Vars, Unwritten>
     requires { Tables (shorts binds.now) (shorts order.old) (words out.old) k q × Inside (triples codes.now) (shorts binds.now) first count }
     ensures { Parted (count + 1) (ids (triples codes.now) count first) (tail_lay (ids (triples codes.now) count first)) (words out.old) k (shorts binds.now) (shorts order.old) q query (words out.new) (shorts order.new) result }
 {
-    let v = read_varlists::variables(codes, first, count, out, k, binds, order, q, query);
-    match v {
-        Vars::Done {
-            out: o,
-            known,
-            free,
-        } => {
-            if !read_emits::emit(out, o, Word::End) {
-                return Vars::Full;
-            }
-            Vars::Done {
-                out: o + 1,
-                known,
-                free,
-            }
-        }
-        Vars::Many => Vars::Many,
-        Vars::Full => Vars::Full,
+    let v = read_varlists::variables(codes, first, count, out, k, binds, order, q, query)?;
+    if !read_emits::emit(out, v.out, Word::End) {
+        return Err(Unwritten::Full);
     }
+    Ok(Vars {
+        out: v.out + 1,
+        ..v
+    })
 }
 
 // The number of a label or of a predicate's name, and the words of its arguments.
@@ -141,12 +119,12 @@ fn labelled(
     order: &mut [u8],
     q: usize,
     query: bool,
-) -> Vars
+) -> Result<Vars, Unwritten>
     requires { Tables (shorts binds.now) (shorts order.old) (words out.old) k q × (label < length (shorts binds.now)) × Inside (triples codes.now) (shorts binds.now) first count }
     ensures { Parted (count + 2) (ids (triples codes.now) count first) (labelled_lay label (ids (triples codes.now) count first)) (words out.old) k (shorts binds.now) (shorts order.old) q query (words out.new) (shorts order.new) result }
 {
     if !read_emits::emit(out, k, Word::Num(label)) {
-        return Vars::Full;
+        return Err(Unwritten::Full);
     }
     tail(codes, first, count, out, k + 1, binds, order, q, query)
 }
@@ -163,12 +141,12 @@ pub fn called(
     order: &mut [u8],
     q: usize,
     query: bool,
-) -> Vars
+) -> Result<Vars, Unwritten>
     requires { Tables (shorts binds.now) (shorts order.old) (words out.old) k q × (name < length (shorts binds.now)) × Inside (triples codes.now) (shorts binds.now) first count }
     ensures { Parted (count + 3) (ids (triples codes.now) count first) (call_lay name (ids (triples codes.now) count first)) (words out.old) k (shorts binds.now) (shorts order.old) q query (words out.new) (shorts order.new) result }
 {
     if !read_emits::emit(out, k, Word::Inner(Sort::Call)) {
-        return Vars::Full;
+        return Err(Unwritten::Full);
     }
     labelled(
         codes,
@@ -185,23 +163,14 @@ pub fn called(
 }
 
 // An answer, and whether a variable before it was not bound.
-fn either(v: Vars, any: bool) -> Vars
-    ensures { result ≡ or_vars any v }
+fn either(z: Result<Vars, Unwritten>, any: bool) -> Result<Vars, Unwritten>
+    ensures { result ≡ or_vars any z }
 {
-    match v {
-        Vars::Done { out, known, free } => {
-            if any {
-                return Vars::Done {
-                    out,
-                    known,
-                    free: true,
-                };
-            }
-            Vars::Done { out, known, free }
-        }
-        Vars::Many => Vars::Many,
-        Vars::Full => Vars::Full,
-    }
+    let v = z?;
+    Ok(Vars {
+        free: any | v.free,
+        ..v
+    })
 }
 
 // The words of an equation of two variables.
@@ -214,23 +183,13 @@ fn same(
     order: &mut [u8],
     q: usize,
     query: bool,
-) -> Vars
+) -> Result<Vars, Unwritten>
     requires { Tables (shorts binds.now) (shorts order.old) (words out.old) k q × (left < length (shorts binds.now)) × (right < length (shorts binds.now)) }
     ensures { Parted 4 (left ∷ right ∷ []) (same_lay left right) (words out.old) k (shorts binds.now) (shorts order.old) q query (words out.new) (shorts order.new) result }
 {
-    let v = lead(Sort::Eq, left, out, k, binds, order, q, query);
-    match v {
-        Vars::Done {
-            out: o,
-            known,
-            free,
-        } => {
-            let z = last(right, out, o, binds, order, known, query);
-            either(z, free)
-        }
-        Vars::Many => Vars::Many,
-        Vars::Full => Vars::Full,
-    }
+    let v = lead(Sort::Eq, left, out, k, binds, order, q, query)?;
+    let z = last(right, out, v.out, binds, order, v.known, query);
+    either(z, v.free)
 }
 
 // The words of a variable that is an application of a label.
@@ -246,25 +205,15 @@ fn made(
     order: &mut [u8],
     q: usize,
     query: bool,
-) -> Vars
+) -> Result<Vars, Unwritten>
     requires { Tables (shorts binds.now) (shorts order.old) (words out.old) k q × (var < length (shorts binds.now)) × (label < length (shorts binds.now)) × Inside (triples codes.now) (shorts binds.now) first count }
     ensures { Parted (count + 4) (var ∷ ids (triples codes.now) count first) (made_lay var label (ids (triples codes.now) count first)) (words out.old) k (shorts binds.now) (shorts order.old) q query (words out.new) (shorts order.new) result }
 {
-    let v = lead(Sort::App, var, out, k, binds, order, q, query);
-    match v {
-        Vars::Done {
-            out: o,
-            known,
-            free,
-        } => {
-            let z = labelled(
-                codes, label, first, count, out, o, binds, order, known, query,
-            );
-            either(z, free)
-        }
-        Vars::Many => Vars::Many,
-        Vars::Full => Vars::Full,
-    }
+    let v = lead(Sort::App, var, out, k, binds, order, q, query)?;
+    let z = labelled(
+        codes, label, first, count, out, v.out, binds, order, v.known, query,
+    );
+    either(z, v.free)
 }
 
 // The words of a constraint.
@@ -277,7 +226,7 @@ pub fn atom(
     order: &mut [u8],
     q: usize,
     query: bool,
-) -> Vars
+) -> Result<Vars, Unwritten>
     requires { CanConstraint (triples codes.now) (shorts binds.now) (shorts order.old) (words out.old) kind k q }
     ensures { Parted (size_of kind) (vars_of (triples codes.now) kind) (con_lay (triples codes.now) kind) (words out.old) k (shorts binds.now) (shorts order.old) q query (words out.new) (shorts order.new) result }
 {

@@ -3,7 +3,7 @@ use Rattle.std.specs.Prelude.{◌≡◌, List, ℕ, ◌+◌, ◌*◌, ◌≤◌,
 use Rattle.std.proofs.Common.{◌∙◌, arith}
 use Rattle.read_tokens.specs.declared.Kind.{Kind}
 use Rattle.read_tokens.specs.Kinds.{token_of}
-use Rattle.read_trie.specs.declared.Child.TheVariants.{At}
+use Rattle.std.specs.Prelude as std
 use Rattle.read_nodes.specs.Spell.{named}
 use Rattle.read_nodes.specs.Trie.{Trie}
 use Rattle.read_trie.specs.Names.{grown_none}
@@ -12,7 +12,7 @@ use Rattle.read_lexed.specs.Codes.{kind_no, kind_small, mark_any, token_at_lem}
 use Rattle.read_lexed.specs.Marks.{mark_most}
 use Rattle.read_lexed.specs.Encoded.{Encoded}
 
-pub coded_mark : {text N H S : List ℕ} {at len n c : ℕ} (k : Kind) → 1 ≤ len → Trie N H S n → 3 ≤ kind_no k → c ≡ kind_no k → Encoded text k at len N H S n N H S (At c n)
+pub coded_mark : {text N H S : List ℕ} {at len n c : ℕ} (k : Kind) → 1 ≤ len → Trie N H S n → 3 ≤ kind_no k → c ≡ kind_no k → Encoded text k at len N H S n N H S (std.Some (c, n))
 coded_mark {text} {N} {H} {S} {at} {len} {n} {c} k g T h e =
     let s = kind_small k in
     let b : c ≡ kind_no k + 0 * 256 = omega arith in

@@ -3,8 +3,7 @@ use Rattle.std.specs.Prelude.{◌≡◌, List, ℕ, ◌+◌, ◌*◌, ◌/◌, �
 use Rattle.std.proofs.Common.{ap, ◌∙◌, arith}
 use Rattle.read_tokens.specs.declared.Kind.{Kind}
 use Rattle.read_tokens.specs.Kinds.{token_of}
-use Rattle.read_trie.specs.declared.Child.{Child}
-use Rattle.read_trie.specs.declared.Child.TheVariants.{At, Full}
+use Rattle.std.specs.Prelude as std
 use Rattle.read_nodes.specs.Spell.{named}
 use Rattle.read_nodes.specs.Trie.{Roomy, Trie, Grown, Kept}
 use Rattle.read_trie.specs.Names.{grown_none}
@@ -28,16 +27,16 @@ pub record Coded (text : List ℕ) (k : Kind) (at len : ℕ) (N : List ℕ) (n :
   -- a mark makes no node and has a byte
   pub spare : m + mark_in (token_of k (take len (drop at text))) ≤ n + len
 
-abbrev pub Code : List ℕ → Kind → ℕ → ℕ → List ℕ → List ℕ → List ℕ → ℕ → List ℕ → List ℕ → List ℕ → Child → Type 0
-Code text k at len N H S n N' H' S' (At c m) = Coded text k at len N n N' H' S' c m
-Code text k at len N H S n N' H' S' Full = Roomy N H S (n + len) → ⊥
+abbrev pub Code : List ℕ → Kind → ℕ → ℕ → List ℕ → List ℕ → List ℕ → ℕ → List ℕ → List ℕ → List ℕ → std.Option (ℕ × ℕ) → Type 0
+Code text k at len N H S n N' H' S' (std.Some (c, m)) = Coded text k at len N n N' H' S' c m
+Code text k at len N H S n N' H' S' std.None = Roomy N H S (n + len) → ⊥
 
 -- What `code` promises of its answer r: a code and the count of nodes, or no room.
-pub record Encoded (text : List ℕ) (k : Kind) (at len : ℕ) (N H S : List ℕ) (n : ℕ) (N' H' S' : List ℕ) (r : Child) : Type 0 where
+pub record Encoded (text : List ℕ) (k : Kind) (at len : ℕ) (N H S : List ℕ) (n : ℕ) (N' H' S' : List ℕ) (r : std.Option (ℕ × ℕ)) : Type 0 where
   pub kept : Kept N H S N' H' S'
   pub code : Code text k at len N H S n N' H' S' r
 
-pub coded_name : {text N H S N' H' S' : List ℕ} {at len n i m c : ℕ} (k : Kind) → 1 ≤ len → kind_no k < 3 → Interned text at len N H S n N' H' S' (At i m) → c ≡ kind_no k + i * 256 → Encoded text k at len N H S n N' H' S' (At c m)
+pub coded_name : {text N H S N' H' S' : List ℕ} {at len n i m c : ℕ} (k : Kind) → 1 ≤ len → kind_no k < 3 → Interned text at len N H S n N' H' S' (std.Some (i, m)) → c ≡ kind_no k + i * 256 → Encoded text k at len N H S n N' H' S' (std.Some (c, m))
 coded_name {text} {N} {H} {S} {N'} {H'} {S'} {at} {len} {n} {i} {m} {c} k g h I e =
     let A = I.number in
     let a : c % 256 ≡ kind_no k = omega arith in
@@ -56,5 +55,5 @@ coded_name {text} {N} {H} {S} {N'} {H'} {S'} {at} {len} {n} {i} {m} {c} k g h I 
           };
     }
 
-pub coded_full : {text N H S N' H' S' : List ℕ} {at len n : ℕ} (k : Kind) → Interned text at len N H S n N' H' S' Full → Encoded text k at len N H S n N' H' S' Full
+pub coded_full : {text N H S N' H' S' : List ℕ} {at len n : ℕ} (k : Kind) → Interned text at len N H S n N' H' S' std.None → Encoded text k at len N H S n N' H' S' std.None
 coded_full k I = record { kept = I.kept; code = I.number }

@@ -13,12 +13,12 @@ use Rattle.read_tokens.specs.Kinds.{token_of}
 use Rattle.read_tokens.specs.Next.{Moved, Reads}
 use Rattle.read_tokens.specs.Tokens.{tokens_read}
 use Rattle.mem_numbers.specs.Stored.{Stored, stored_same, stored_other}
-use Rattle.read_trie.specs.declared.Child.TheVariants as child
+use Rattle.std.specs.Prelude as std
 use Rattle.read_nodes.specs.Trie.{Roomy, Trie, Grown, Kept}
 use Rattle.read_trie.specs.Names.{grown_none, grown_twice}
 use Rattle.read_trie.specs.Outcome.{kept_none, kept_twice}
-use Rattle.read_lexed.specs.declared.Lexed.{Lexed}
-use Rattle.read_lexed.specs.declared.Lexed.TheVariants as lexed
+use Rattle.read_lexed.specs.declared.NotLexed.{NotLexed}
+use Rattle.read_lexed.specs.declared.NotLexed.TheVariants as lexed
 use Rattle.read_lexed.specs.Codes.{token_at, Fit, token_kept, fit_more}
 use Rattle.read_lexed.specs.Marks.{mark_in, marks, marks_last}
 use Rattle.read_lexed.specs.Encoded.{Coded, Encoded}
@@ -42,13 +42,13 @@ table_spare {N' = N'} {K' = K'} {k = k} t ts e =
     let w : marks (map (token_at N') (take k K')) ≡ marks ts = ap marks z in
     omega (arith, t.spare)
 
-abbrev pub Answer : List ℕ → List ℕ → List ℕ → List ℕ → List ℕ → ℕ → List ℕ → List ℕ → List ℕ → List ℕ → Lexed → Type 0
-Answer text K N H S n K' N' H' S' (lexed.All k m) = Table text N n N' H' S' K' k m
-Answer text K N H S n K' N' H' S' lexed.Bad = akl.tokens text ≡ none
-Answer text K N H S n K' N' H' S' lexed.Full = length text ≤ length K → Roomy N H S (n + length text) → ⊥
+abbrev pub Answer : List ℕ → List ℕ → List ℕ → List ℕ → List ℕ → ℕ → List ℕ → List ℕ → List ℕ → List ℕ → std.Result (ℕ × ℕ) NotLexed → Type 0
+Answer text K N H S n K' N' H' S' (std.Ok (k, m)) = Table text N n N' H' S' K' k m
+Answer text K N H S n K' N' H' S' (std.Err lexed.Bad) = akl.tokens text ≡ none
+Answer text K N H S n K' N' H' S' (std.Err lexed.Full) = length text ≤ length K → Roomy N H S (n + length text) → ⊥
 
 -- What `tokenise` promises of its answer r.
-pub record Tokenised (text K N H S : List ℕ) (n : ℕ) (K' N' H' S' : List ℕ) (r : Lexed) : Type 0 where
+pub record Tokenised (text K N H S : List ℕ) (n : ℕ) (K' N' H' S' : List ℕ) (r : std.Result (ℕ × ℕ) NotLexed) : Type 0 where
   pub kept : Kept N H S N' H' S'
   pub codes : length K' ≡ length K
   pub answer : Answer text K N H S n K' N' H' S' r
@@ -110,7 +110,7 @@ sofar_none text K N H S n T =
 
 module _ {text K N H S : List ℕ} {n : ℕ} {K' N' H' S' : List ℕ} {at k m : ℕ} (Z : Sofar text K N H S n K' N' H' S' at k m) where
   -- no token is left
-  pub sofar_end : Reads text at End → Tokenised text K N H S n K' N' H' S' (lexed.All k m)
+  pub sofar_end : Reads text at End → Tokenised text K N H S n K' N' H' S' (std.Ok (k, m))
   sofar_end R =
       record {
         kept = Z.kept;
@@ -129,19 +129,19 @@ module _ {text K N H S : List ℕ} {n : ℕ} {K' N' H' S' : List ℕ} {at k m : 
       }
 
   -- no token stands there
-  pub sofar_bad : Reads text at Bad → Tokenised text K N H S n K' N' H' S' lexed.Bad
+  pub sofar_bad : Reads text at Bad → Tokenised text K N H S n K' N' H' S' (std.Err lexed.Bad)
   sofar_bad R =
       record { kept = Z.kept; codes = Z.codes; answer = Z.says ∙ ap (onto (map (token_at N') (take k K'))) (tokens_read text at Bad R) }
 
   module _ (kind : Kind) (from len : ℕ) (rest : Cursor) (R : Reads text at (Token kind from len rest)) where
     -- no room for one code more
-    pub sofar_codes : length K' ≤ k → Tokenised text K N H S n K' N' H' S' lexed.Full
+    pub sofar_codes : length K' ≤ k → Tokenised text K N H S n K' N' H' S' (std.Err lexed.Full)
     sofar_codes h =
         let M = R.forward in
         record { kept = Z.kept; codes = Z.codes; answer = λ g q. omega (arith, Z.codes, Z.short, M.behind, M.some, M.past, M.inside) }
 
     -- no room for one name more
-    pub sofar_names : {N'' H'' S'' : List ℕ} → Encoded text kind from len N' H' S' m N'' H'' S'' child.Full → Tokenised text K N H S n K' N'' H'' S'' lexed.Full
+    pub sofar_names : {N'' H'' S'' : List ℕ} → Encoded text kind from len N' H' S' m N'' H'' S'' std.None → Tokenised text K N H S n K' N'' H'' S'' (std.Err lexed.Full)
     sofar_names E =
         let M = R.forward in
         let w : m + len ≤ n + length text = omega (arith, Z.few, M.behind, M.past, M.inside) in
@@ -153,7 +153,7 @@ module _ {text K N H S : List ℕ} {n : ℕ} {K' N' H' S' : List ℕ} {at k m : 
         }
 
     -- one token more
-    pub sofar_more : {N'' H'' S'' K'' : List ℕ} {c m' : ℕ} → Encoded text kind from len N' H' S' m N'' H'' S'' (child.At c m') → k < length K' → Stored K' k c K'' → Sofar text K N H S n K'' N'' H'' S'' rest.0 (k + 1) m'
+    pub sofar_more : {N'' H'' S'' K'' : List ℕ} {c m' : ℕ} → Encoded text kind from len N' H' S' m N'' H'' S'' (std.Some (c, m')) → k < length K' → Stored K' k c K'' → Sofar text K N H S n K'' N'' H'' S'' rest.0 (k + 1) m'
     sofar_more {N''} {H''} {S''} {K''} {c} {m'} E h s =
         record {
           trie = C.trie;

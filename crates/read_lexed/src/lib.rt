@@ -7,12 +7,10 @@ ghost use Rattle.read_lexed.specs.Codes.{kind_no};
 ghost use Rattle.read_lexed.specs.Encoded.{CanCode, Encoded};
 
 use read_tokens::Kind;
-use read_trie::Child;
 
-// How many codes and nodes there are; or some bytes are no token; or a table is too short.
-#[derive(Clone, Copy)]
-pub enum Lexed {
-    All(usize, usize),
+// Why a text has no table of codes: some bytes are no token, or a table is too short.
+#[derive(Clone, Copy, Debug, PartialEq, Eq)]
+pub enum NotLexed {
     Bad,
     Full,
 }
@@ -39,7 +37,7 @@ pub fn kind_no(kind: Kind) -> usize
     }
 }
 
-// The code of the token of `len` bytes from `at` on, and the count of nodes.
+// The code of the token of `len` bytes from `at` on, and the count of nodes; None where there is no room for its name.
 pub fn code(
     text: &[u8],
     kind: Kind,
@@ -49,16 +47,14 @@ pub fn code(
     heads: &mut [u8],
     nexts: &mut [u8],
     n: usize,
-) -> Child
+) -> Option<(usize, usize)>
     requires { CanCode text.now at len (triples cells.old) (shorts heads.old) (shorts nexts.old) n }
     ensures { Encoded text.now kind at len (triples cells.old) (shorts heads.old) (shorts nexts.old) n (triples cells.new) (shorts heads.new) (shorts nexts.new) result }
 {
     let no = kind_no(kind);
     if 3 <= no {
-        return Child::At(no, n);
+        return Some((no, n));
     }
-    let Child::At(i, m) = read_names::intern(text, at, len, cells, heads, nexts, n) else {
-        return Child::Full;
-    };
-    Child::At(no + i * 256, m)
+    let (i, m) = read_names::intern(text, at, len, cells, heads, nexts, n)?;
+    Some((no + i * 256, m))
 }

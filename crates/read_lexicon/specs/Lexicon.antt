@@ -3,8 +3,7 @@ use Rattle.std.specs.Prelude.{◌≡◌, refl, Bool, true, false, List, [], ◌�
 use Rattle.std.proofs.Common.{ap, sym, ◌∙◌, subst, arith}
 use Rattle.std.proofs.Math.Decide.{ℕ_discrete}
 use Rattle.akl.specs.Base.{bytes, bytes_from}
-use Rattle.read_trie.specs.declared.Child.{Child}
-use Rattle.read_trie.specs.declared.Child.TheVariants.{At, Full}
+use Rattle.std.specs.Prelude as std
 use Rattle.read_nodes.specs.Spell.{named, named_last}
 use Rattle.read_nodes.specs.Trie.{Roomy, Trie, Grown, Kept}
 use Rattle.read_trie.specs.Names.{named_kept}
@@ -77,10 +76,10 @@ fail_bytes = refl
 pub started : {N H S H₁ : List ℕ} → Kept N H S N H₁ S → (r : Bool) → r ≡ true → Started N H₁ S r → Trie N H₁ S 1
 started {N} {H} {S} {H₁} K r e s = subst (Started N H₁ S) e s
 
-pub interned_at : {text N H S N' H' S' : List ℕ} {at len n i m : ℕ} {r : Child} → r ≡ At i m → Interned text at len N H S n N' H' S' r → Interned text at len N H S n N' H' S' (At i m)
+pub interned_at : {text N H S N' H' S' : List ℕ} {at len n i m : ℕ} {r : std.Option (ℕ × ℕ)} → r ≡ std.Some (i, m) → Interned text at len N H S n N' H' S' r → Interned text at len N H S n N' H' S' (std.Some (i, m))
 interned_at {text} {N} {H} {S} {N'} {H'} {S'} {at} {len} {n} e I = subst (Interned text at len N H S n N' H' S') e I
 
-pub interned_full : {text N H S N' H' S' : List ℕ} {at len n : ℕ} {r : Child} → r ≡ Full → Interned text at len N H S n N' H' S' r → Interned text at len N H S n N' H' S' Full
+pub interned_full : {text N H S N' H' S' : List ℕ} {at len n : ℕ} {r : std.Option (ℕ × ℕ)} → r ≡ std.None → Interned text at len N H S n N' H' S' r → Interned text at len N H S n N' H' S' std.None
 interned_full {text} {N} {H} {S} {N'} {H'} {S'} {at} {len} {n} e I = subst (Interned text at len N H S n N' H' S') e I
 
 -- the first name of a trie of one node
@@ -88,7 +87,7 @@ pub first_name : {text N N' H' S' : List ℕ} {i m : ℕ} → Named text 0 4 N 1
 first_name A = let e = A.new (omega arith) (λ i g h x. omega arith) in (omega (arith, e.0), omega (arith, e.1))
 
 -- both names
-pub both : {t f N H S H₁ N₂ H₂ S₂ N₃ H₃ S₃ : List ℕ} {i j m q : ℕ} → Kept N H S N H₁ S → t ≡ bytes "true" → f ≡ bytes "fail" → Interned t 0 4 N H₁ S 1 N₂ H₂ S₂ (At i m) → Interned f 0 4 N₂ H₂ S₂ m N₃ H₃ S₃ (At j q) → Begun N H S N₃ H₃ S₃ true
+pub both : {t f N H S H₁ N₂ H₂ S₂ N₃ H₃ S₃ : List ℕ} {i j m q : ℕ} → Kept N H S N H₁ S → t ≡ bytes "true" → f ≡ bytes "fail" → Interned t 0 4 N H₁ S 1 N₂ H₂ S₂ (std.Some (i, m)) → Interned f 0 4 N₂ H₂ S₂ m N₃ H₃ S₃ (std.Some (j, q)) → Begun N H S N₃ H₃ S₃ true
 unfolding bytes bytes_from
 both {t} {f} {N} {H} {S} {H₁} {N₂} {H₂} {S₂} {N₃} {H₃} {S₃} {i} {j} {m} {q} K t_is f_is I J =
     let A = I.number in
@@ -115,14 +114,14 @@ both {t} {f} {N} {H} {S} {H₁} {N₂} {H₂} {S₂} {N₃} {H₃} {S₃} {i} {j
 pub no_root : {N H S H₁ : List ℕ} → Kept N H S N H₁ S → (r : Bool) → r ≡ false → Started N H₁ S r → Begun N H S N H₁ S false
 no_root {N} {H} {S} {H₁} K r e s = record { kept = K; begins = λ R. subst (Started N H₁ S) e s (record { cells = omega (arith, R.cells); heads = omega (arith, R.heads, K.heads); nexts = omega (arith, R.nexts); count = omega arith }) }
 
-pub no_true : {t N H S H₁ N₂ H₂ S₂ : List ℕ} → Kept N H S N H₁ S → Interned t 0 4 N H₁ S 1 N₂ H₂ S₂ Full → Begun N H S N₂ H₂ S₂ false
+pub no_true : {t N H S H₁ N₂ H₂ S₂ : List ℕ} → Kept N H S N H₁ S → Interned t 0 4 N H₁ S 1 N₂ H₂ S₂ std.None → Begun N H S N₂ H₂ S₂ false
 no_true K I =
     record {
       kept = kept_twice K I.kept;
       begins = λ R. I.number (record { cells = omega (arith, R.cells); heads = omega (arith, R.heads, K.heads); nexts = omega (arith, R.nexts); count = omega arith });
     }
 
-pub no_fail : {t f N H S H₁ N₂ H₂ S₂ N₃ H₃ S₃ : List ℕ} {i m : ℕ} → Kept N H S N H₁ S → Interned t 0 4 N H₁ S 1 N₂ H₂ S₂ (At i m) → Interned f 0 4 N₂ H₂ S₂ m N₃ H₃ S₃ Full → Begun N H S N₃ H₃ S₃ false
+pub no_fail : {t f N H S H₁ N₂ H₂ S₂ N₃ H₃ S₃ : List ℕ} {i m : ℕ} → Kept N H S N H₁ S → Interned t 0 4 N H₁ S 1 N₂ H₂ S₂ (std.Some (i, m)) → Interned f 0 4 N₂ H₂ S₂ m N₃ H₃ S₃ std.None → Begun N H S N₃ H₃ S₃ false
 no_fail K I J =
     let L = kept_twice K I.kept in
     let e = first_name I.number in

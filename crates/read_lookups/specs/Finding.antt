@@ -2,8 +2,8 @@
 use Rattle.std.specs.Prelude.{◌≡◌, List, ℕ, ◌+◌, ◌<◌, get_or}
 use Rattle.std.proofs.Common.{ap, sym, ◌∙◌, arith}
 use Rattle.std.proofs.Math.Decide.{ℕ_discrete}
-use Rattle.read_lookups.specs.declared.Found.{Found}
-use Rattle.read_lookups.specs.declared.Found.TheVariants.{At, Absent}
+use Rattle.std.specs.Prelude as std
+use Rattle.read_lookups.specs.declared.Variable.{Variable}
 
 -- i is the first position of id among the first k numbers
 pub record FirstAt (O : List ℕ) (k id i : ℕ) : Type 0 where
@@ -12,9 +12,9 @@ pub record FirstAt (O : List ℕ) (k id i : ℕ) : Type 0 where
   pub earlier : (j : ℕ) → j < i → get_or O j 0 ≡ id → ⊥
 
 -- What `number_of` promises of its answer.
-abbrev pub FoundAt : List ℕ → ℕ → ℕ → Found → Type 0
-FoundAt O k id (At v) = FirstAt O k id v.0
-FoundAt O k id Absent = (j : ℕ) → j < k → get_or O j 0 ≡ id → ⊥
+abbrev pub FoundAt : List ℕ → ℕ → ℕ → std.Option Variable → Type 0
+FoundAt O k id (std.Some v) = FirstAt O k id v.0
+FoundAt O k id std.None = (j : ℕ) → j < k → get_or O j 0 ≡ id → ⊥
 
 -- the search goes one further
 pub not_yet : (O : List ℕ) (id i : ℕ) → ((j : ℕ) → j < i → get_or O j 0 ≡ id → ⊥) → (get_or O i 0 ≡ id → ⊥) → (j : ℕ) → j < i + 1 → get_or O j 0 ≡ id → ⊥

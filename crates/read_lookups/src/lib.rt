@@ -10,36 +10,27 @@ ghost use Rattle.read_lookups.specs.Finding.{FoundAt};
 #[derive(Clone, Copy)]
 pub struct Variable(pub usize);
 
-// A variable's number, or there is none.
-#[derive(Clone, Copy)]
-pub enum Found {
-    At(Variable),
-    Absent,
-}
-
 // The value of the name `id`; 0 where the table has none.
 pub fn level_of(binds: &[u8], id: usize) -> usize
     ensures { result ≡ get_or (shorts binds.now) id 0 }
 {
-    if id < mem_numbers::short_count(binds) {
-        return mem_numbers::short_get(binds, id);
+    if id < mem_numbers::count::<2>(binds) {
+        return mem_numbers::get::<2>(binds, id);
     }
     0
 }
 
 // The first position of `id` among the first `k` numbers of `order`.
-pub fn number_of(order: &[u8], k: usize, id: usize) -> Found
+pub fn number_of(order: &[u8], k: usize, id: usize) -> Option<Variable>
     requires { k ≤ length (shorts order.now) }
     ensures { FoundAt (shorts order.now) k id result }
 {
-    let mut i = 0;
-    while i < k {
-        if mem_numbers::short_get(order, i) == id {
-            return Found::At(Variable(i));
+    for i in 0..k {
+        if mem_numbers::get::<2>(order, i) == id {
+            return Some(Variable(i));
         }
-        i += 1;
     }
-    Found::Absent
+    None
 }
 
 // Whether `head` is among the first `k` numbers of `heads`.
@@ -47,12 +38,10 @@ pub fn listed(heads: &[u8], k: usize, head: usize) -> bool
     requires { k ≤ length (triples heads.now) }
     ensures { result ≡ among head (take k (triples heads.now)) }
 {
-    let mut m = 0;
-    while m < k {
-        if mem_numbers::triple_get(heads, m) == head {
+    for m in 0..k {
+        if mem_numbers::get::<3>(heads, m) == head {
             return true;
         }
-        m += 1;
     }
     false
 }

@@ -2,8 +2,7 @@
 use Rattle.std.specs.Prelude.{◌≡◌, List, [], ◌∷◌, ◌++◌, ℕ, ◌+◌, ◌*◌, ◌<◌, ◌≤◌, length, get_or, take, drop}
 use Rattle.std.proofs.Common.{ap, sym, ◌∙◌, subst, add-one, arith, length-drop, take-suc, get_or-drop}
 use Rattle.std.proofs.Math.Decide.{dec_lt}
-use Rattle.read_trie.specs.declared.Child.{Child}
-use Rattle.read_trie.specs.declared.Child.TheVariants.{At, Full}
+use Rattle.std.specs.Prelude as std
 use Rattle.read_nodes.specs.Spell.{named, named_root}
 use Rattle.read_nodes.specs.Trie.{Roomy, Trie, Grown, Kept}
 use Rattle.read_trie.specs.Names.{one_number, named_kept, grown_none, grown_twice, named_child}
@@ -26,12 +25,12 @@ pub record Named (text : List ℕ) (at len : ℕ) (N : List ℕ) (n : ℕ) (N' H
   -- where no name began with the first byte, every byte makes a node, behind the others
   pub new : 0 < len → Fresh N n (get_or text at 0) → (i + 1 ≡ n + len) × (m ≡ n + len)
 
-abbrev pub Numbered : List ℕ → ℕ → ℕ → List ℕ → List ℕ → List ℕ → ℕ → List ℕ → List ℕ → List ℕ → Child → Type 0
-Numbered text at len N H S n N' H' S' (At i m) = Named text at len N n N' H' S' i m
-Numbered text at len N H S n N' H' S' Full = Roomy N H S (n + len) → ⊥
+abbrev pub Numbered : List ℕ → ℕ → ℕ → List ℕ → List ℕ → List ℕ → ℕ → List ℕ → List ℕ → List ℕ → std.Option (ℕ × ℕ) → Type 0
+Numbered text at len N H S n N' H' S' (std.Some (i, m)) = Named text at len N n N' H' S' i m
+Numbered text at len N H S n N' H' S' std.None = Roomy N H S (n + len) → ⊥
 
 -- What `intern` promises of its answer r.
-pub record Interned (text : List ℕ) (at len : ℕ) (N H S : List ℕ) (n : ℕ) (N' H' S' : List ℕ) (r : Child) : Type 0 where
+pub record Interned (text : List ℕ) (at len : ℕ) (N H S : List ℕ) (n : ℕ) (N' H' S' : List ℕ) (r : std.Option (ℕ × ℕ)) : Type 0 where
   pub kept : Kept N H S N' H' S'
   pub number : Numbered text at len N H S n N' H' S' r
 
@@ -77,7 +76,7 @@ named_more {text} {N} {N₁} {H₁} {S₁} {N'} {H'} {S'} {n} {at} {len} {p} {k}
         F i g v (sym (A.grown.same i v) ∙ e ∙ (omega (arith, r, y)))
 
 -- no room for one byte more: no room for the name
-pub intern_full : {text N H S N₁ H₁ S₁ N' H' S' : List ℕ} {n at i len p k c : ℕ} → Named text at i N n N₁ H₁ S₁ p k → Kept N H S N₁ H₁ S₁ → i < len → Childed N₁ H₁ S₁ k c N' H' S' Full → Interned text at len N H S n N' H' S' Full
+pub intern_full : {text N H S N₁ H₁ S₁ N' H' S' : List ℕ} {n at i len p k c : ℕ} → Named text at i N n N₁ H₁ S₁ p k → Kept N H S N₁ H₁ S₁ → i < len → Childed N₁ H₁ S₁ k c N' H' S' std.None → Interned text at len N H S n N' H' S' std.None
 intern_full A K h C =
     record {
       kept = kept_twice K C.kept;
@@ -85,5 +84,5 @@ intern_full A K h C =
     }
 
 -- all bytes are read
-pub intern_at : {text N H S N' H' S' : List ℕ} {n at i len p m : ℕ} → Named text at i N n N' H' S' p m → Kept N H S N' H' S' → i ≡ len → Interned text at len N H S n N' H' S' (At p m)
+pub intern_at : {text N H S N' H' S' : List ℕ} {n at i len p m : ℕ} → Named text at i N n N' H' S' p m → Kept N H S N' H' S' → i ≡ len → Interned text at len N H S n N' H' S' (std.Some (p, m))
 intern_at {text} {N} {H} {S} {N'} {H'} {S'} {n} {at} {i} {len} {p} {m} A K e = record { kept = K; number = subst (λ (l : ℕ). Named text at l N n N' H' S' p m) e A }

@@ -4,9 +4,7 @@
 ghost use Rattle.mem_numbers.specs.Numbers.{shorts, triples};
 ghost use Rattle.read_names.specs.Interning.{CanIntern, Interned};
 
-use read_trie::Child;
-
-// The number of the name of `len` bytes from `at` on.
+// The number of the name of `len` bytes from `at` on, and the count of nodes; None where there is no room for it.
 pub fn intern(
     text: &[u8],
     at: usize,
@@ -15,21 +13,17 @@ pub fn intern(
     heads: &mut [u8],
     nexts: &mut [u8],
     n: usize,
-) -> Child
+) -> Option<(usize, usize)>
     requires { CanIntern text.now at len (triples cells.old) (shorts heads.old) (shorts nexts.old) n }
     ensures { Interned text.now at len (triples cells.old) (shorts heads.old) (shorts nexts.old) n (triples cells.new) (shorts heads.new) (shorts nexts.new) result }
 {
-    let mut i = 0;
     let mut p = 0;
     let mut m = n;
-    while i < len {
+    for i in 0..len {
         let b = text[at + i];
-        let Child::At(q, k) = read_trie::child_of(cells, heads, nexts, m, p, b) else {
-            return Child::Full;
-        };
+        let (q, k) = read_trie::child_of(cells, heads, nexts, m, p, b)?;
         p = q;
         m = k;
-        i += 1;
     }
-    Child::At(p, m)
+    Some((p, m))
 }

@@ -12,16 +12,16 @@ ghost use Rattle.read_nodes.specs.Starting.{Started};
 pub fn start(cells: &[u8], heads: &mut [u8], nexts: &[u8]) -> bool
     ensures { Kept (triples cells.now) (shorts heads.old) (shorts nexts.now) (triples cells.now) (shorts heads.new) (shorts nexts.now) × Started (triples cells.now) (shorts heads.new) (shorts nexts.now) result }
 {
-    if mem_numbers::triple_count(cells) == 0 {
+    if mem_numbers::count::<3>(cells) == 0 {
         return false;
     }
-    if mem_numbers::short_count(nexts) == 0 {
+    if mem_numbers::count::<2>(nexts) == 0 {
         return false;
     }
-    if mem_numbers::short_count(heads) == 0 {
+    if mem_numbers::count::<2>(heads) == 0 {
         return false;
     }
-    mem_numbers::short_put(heads, 0, 0);
+    mem_numbers::put::<2>(heads, 0, 0);
     true
 }
 
@@ -30,7 +30,7 @@ pub fn parent_of(cells: &[u8], i: usize) -> usize
     requires { i < length (triples cells.now) }
     ensures { result ≡ get_or (triples cells.now) i 0 / 256 }
 {
-    mem_numbers::triple_get(cells, i) / 256
+    mem_numbers::get::<3>(cells, i) / 256
 }
 
 // The last byte of the name of the node `i` above 0.
@@ -38,5 +38,5 @@ pub fn byte_of(cells: &[u8], i: usize) -> u8
     requires { i < length (triples cells.now) }
     ensures { result ≡ get_or (triples cells.now) i 0 % 256 }
 {
-    (mem_numbers::triple_get(cells, i) % 256) as u8
+    (mem_numbers::get::<3>(cells, i) % 256) as u8
 }

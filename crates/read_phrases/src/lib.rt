@@ -55,8 +55,8 @@ pub enum Simple {
 pub fn kind_at(codes: &[u8], i: usize) -> usize
     ensures { result ≡ kind_at (triples codes.now) i }
 {
-    if i < mem_numbers::triple_count(codes) {
-        return mem_numbers::triple_get(codes, i) % 256;
+    if i < mem_numbers::count::<3>(codes) {
+        return mem_numbers::get::<3>(codes, i) % 256;
     }
     255
 }
@@ -65,8 +65,8 @@ pub fn kind_at(codes: &[u8], i: usize) -> usize
 pub fn number_at(codes: &[u8], i: usize) -> usize
     ensures { result ≡ number_at (triples codes.now) i }
 {
-    if i < mem_numbers::triple_count(codes) {
-        return mem_numbers::triple_get(codes, i) / 256;
+    if i < mem_numbers::count::<3>(codes) {
+        return mem_numbers::get::<3>(codes, i) / 256;
     }
     0
 }

@@ -47,7 +47,7 @@ pub fn checked(
     requires { CanCheck (triples codes.now) (shorts binds.old) (shorts order.old) }
     ensures { CheckedTo (triples codes.now) stack.old (triples heads.old) (shorts binds.old) (shorts saves.old) (words out.old) names (triples heads.new) (words out.new) result }
 {
-    mem_numbers::fill_zero(binds);
+    binds.fill(0);
     let h = read_heads::heads_of(codes, stack, heads);
     match h {
         Headed::All { count, twice } => {

@@ -7,8 +7,8 @@ ghost use Rattle.akl.specs.Parse.{parse_program};
 ghost use Rattle.read_lexicon.specs.Lexicon.{Lexicon};
 ghost use Rattle.read_texts.specs.Texts.{Answered};
 
-use read_grammar::Verdict;
-use read_lexed::Lexed;
+use read_lexed::NotLexed;
+use read_statements::Unparsed;
 use read_texts::Readable;
 
 // Whether a text is a program.
@@ -29,19 +29,19 @@ pub fn program_text(
     }
     let l = read_tokenise::tokenise(text, codes, cells, heads, nexts, n);
     match l {
-        Lexed::All(k, m) => {
+        Ok((k, m)) => {
             let e = 3 * k;
             let v = read_shapes::program_is(&codes[..e], stack);
             match v {
-                Verdict::Of => Readable::Yes {
+                Ok(()) => Readable::Yes {
                     tokens: k,
                     names: m,
                 },
-                Verdict::NotOf => Readable::Odd, // the tokens are no program
-                Verdict::NoRoom => Readable::Short, // too few bytes for the open brackets
+                Err(Unparsed::Odd) => Readable::Odd, // the tokens are no program
+                Err(Unparsed::Short) => Readable::Short, // too few bytes for the open brackets
             }
         }
-        Lexed::Bad => Readable::Odd,
-        Lexed::Full => Readable::Short, // too few codes or nodes
+        Err(NotLexed::Bad) => Readable::Odd,
+        Err(NotLexed::Full) => Readable::Short, // too few codes or nodes
     }
 }

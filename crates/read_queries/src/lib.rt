@@ -36,7 +36,7 @@ fn checked(
     requires { CanCheck (triples codes.now) (shorts binds.old) (shorts order.old) (triples heads.now) }
     ensures { CheckedTo (triples codes.now) (shorts binds.old) (shorts saves.old) (shorts order.old) (triples heads.now) (words out.old) names (shorts order.new) (words out.new) result }
 {
-    mem_numbers::fill_zero(binds);
+    binds.fill(0);
     let s = read_nested::statement(codes, heads, true, out, binds, saves, order, 0, 0, 0, 0, 0);
     match s {
         Read::Done {
@@ -82,10 +82,10 @@ pub fn query(
     let r = read_texts::query_text(text, codes, cells, firsts, nexts, stack, n);
     match r {
         Readable::Yes { tokens, names } => {
-            if mem_numbers::short_count(binds) < names {
+            if mem_numbers::count::<2>(binds) < names {
                 return Queried::Short;
             }
-            if mem_numbers::short_count(order) < 16 {
+            if mem_numbers::count::<2>(order) < 16 {
                 return Queried::Short;
             }
             let e = 3 * tokens;

@@ -31,10 +31,10 @@ pub fn program(
     let r = read_programtext::program_text(text, codes, cells, firsts, nexts, stack, n);
     match r {
         Readable::Yes { tokens, names } => {
-            if mem_numbers::short_count(binds) < names {
+            if mem_numbers::count::<2>(binds) < names {
                 return Programmed::Short;
             }
-            if mem_numbers::short_count(order) < 16 {
+            if mem_numbers::count::<2>(order) < 16 {
                 return Programmed::Short;
             }
             let e = 3 * tokens;

@@ -11,8 +11,8 @@ use Rattle.akl.specs.Base as akl
 use Rattle.read_lookups.specs.Places.{ids, behind, place, among, repeated}
 use Rattle.read_scopes.specs.Scopes.{Bound}
 use Rattle.read_lookups.specs.Finding.{FirstAt, FoundAt}
-use Rattle.read_lookups.specs.declared.Found.{Found}
-use Rattle.read_lookups.specs.declared.Found.TheVariants.{At, Absent}
+use Rattle.std.specs.Prelude as std
+use Rattle.read_lookups.specs.declared.Variable.{Variable}
 
 -- w spells x otherwise than each other number of l
 abbrev pub Own : (ℕ → Name) → ℕ → List ℕ → Type 0
@@ -106,10 +106,10 @@ absent_first w (y ∷ O) (suc k) x h n o =
     go false e = refl
 
 -- the answer of a search, as a position
-abbrev pub answer : Found → Option ℕ
-answer (At v) = some v.0
-answer Absent = none
+abbrev pub answer : std.Option Variable → Option ℕ
+answer (std.Some v) = some v.0
+answer std.None = none
 
-pub number_first : (w : ℕ → Name) (O : List ℕ) (k x : ℕ) (r : Found) → k ≤ length O → FoundAt O k x r → Own w x (take k O) → first (w x) (map w (take k O)) ≡ answer r
-number_first w O k x (At v) h f o = found_first w O k x v.0 h f o
-number_first w O k x Absent h f o = absent_first w O k x h f o
+pub number_first : (w : ℕ → Name) (O : List ℕ) (k x : ℕ) (r : std.Option Variable) → k ≤ length O → FoundAt O k x r → Own w x (take k O) → first (w x) (map w (take k O)) ≡ answer r
+number_first w O k x (std.Some v) h f o = found_first w O k x v.0 h f o
+number_first w O k x std.None h f o = absent_first w O k x h f o

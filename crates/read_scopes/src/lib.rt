@@ -8,7 +8,8 @@ ghost use Rattle.read_scopes.specs.Scopes.{CanEnter, Entered, CanLeave, Left};
 ghost use Rattle.read_scopes.specs.TheirContracts.{CanBind, BindTo, CanUnbind, Unbound};
 
 // The names of a list are bound, and are apart or one is there twice; or there was no room to save what was bound.
-#[derive(Clone, Copy)]
+// An enum of its own and not a Result: where a name is there twice, all are bound.
+#[derive(Clone, Copy, Debug, PartialEq, Eq)]
 pub enum Binding {
     Apart,
     Twice,
@@ -20,7 +21,7 @@ fn name_at(codes: &[u8], i: usize) -> usize
     requires { i < length (triples codes.now) }
     ensures { result ≡ get_or (triples codes.now) i 0 / 256 }
 {
-    mem_numbers::triple_get(codes, i) / 256
+    mem_numbers::get::<3>(codes, i) / 256
 }
 
 // Gives the name at `at` the value `v`. Its old value is saved at `k`, and handed back.
@@ -29,9 +30,9 @@ fn enter(codes: &[u8], at: usize, binds: &mut [u8], saves: &mut [u8], k: usize, 
     ensures { Entered (triples codes.now) at (shorts binds.old) (shorts saves.old) k v (shorts binds.new) (shorts saves.new) result }
 {
     let id = name_at(codes, at);
-    let old = mem_numbers::short_get(binds, id);
-    mem_numbers::short_put(saves, k, old);
-    mem_numbers::short_put(binds, id, v);
+    let old = mem_numbers::get::<2>(binds, id);
+    mem_numbers::put::<2>(saves, k, old);
+    mem_numbers::put::<2>(binds, id, v);
     old
 }
 
@@ -41,8 +42,8 @@ fn leave(codes: &[u8], at: usize, binds: &mut [u8], saves: &[u8], k: usize)
     ensures { Left (triples codes.now) at (shorts binds.old) (shorts saves.now) k (shorts binds.new) }
 {
     let id = name_at(codes, at);
-    let old = mem_numbers::short_get(saves, k);
-    mem_numbers::short_put(binds, id, old);
+    let old = mem_numbers::get::<2>(saves, k);
+    mem_numbers::put::<2>(binds, id, old);
 }
 
 // Binds the `count` names at every second token from `first` on, behind `level` names that are bound already. The values that
@@ -59,18 +60,16 @@ pub fn bind(
     requires { CanBind (triples codes.now) first count (shorts binds.old) level }
     ensures { BindTo (triples codes.now) first count (shorts binds.old) (shorts saves.old) n level (shorts binds.new) (shorts saves.new) result }
 {
-    let room = mem_numbers::short_count(saves);
+    let room = mem_numbers::count::<2>(saves);
     if room < n {
         return Binding::Full;
     }
     if room - n < count {
         return Binding::Full;
     }
-    let mut j = 0;
     let mut twice = false;
-    while j < count {
+    for j in 0..count {
         let old = enter(codes, first + 2 * j, binds, saves, n + j, level + j + 1);
-        j += 1;
         if level < old {
             twice = true;
         }
@@ -86,10 +85,7 @@ pub fn unbind(codes: &[u8], first: usize, count: usize, binds: &mut [u8], saves:
     requires { CanUnbind (triples codes.now) first count (shorts binds.old) (shorts saves.now) n }
     ensures { Unbound (triples codes.now) first count (shorts binds.old) (shorts saves.now) n (shorts binds.new) }
 {
-    let mut k = 0;
-    while k < count {
-        k += 1;
-        let j = count - k;
+    for j in (0..count).rev() {
         leave(codes, first + 2 * j, binds, saves, n + j);
     }
 }

@@ -20,7 +20,10 @@ use Rattle.read_phrases.specs.Phrases.{Reserved, HiddenTo, SimpleAt}
 use Rattle.read_phrases.specs.declared.Phrase.TheVariants.{To, Odd as NoPhrase}
 use Rattle.read_statements.specs.Statements.{frames, Says, Forward, Followed, Stepped, CanTurn, CanFollow}
 use Rattle.read_statements.specs.declared.Onward.{Onward}
-use Rattle.read_statements.specs.declared.Onward.TheVariants.{Next, Done, Odd, Full}
+use Rattle.read_statements.specs.declared.Onward.TheVariants.{Next, Done}
+use Rattle.read_statements.specs.declared.Unparsed.{Unparsed}
+use Rattle.read_statements.specs.declared.Unparsed.TheVariants.{Odd, Short}
+use Rattle.std.specs.Prelude as std
 
 -- the innermost bracket
 frames_top : (S : List ℕ) (h : ℕ) → 1 ≤ h → frames S h ≡ get_or S (h - 1) 0 ∷ frames S (h - 1)
@@ -66,16 +69,16 @@ module _ (L S : List ℕ) (at h : ℕ) (can : CanTurn L S at h) where
   no_close : (w : ℕ → Name) → after close_bracket (toks w L at) ≡ none
   no_close w = mark_not w L at close_bracket can.close
 
-  pub turn_clause_odd : (k f : ℕ) → k ≡ kind_at L at → k ≡ 10 → f ≡ get_or S (h - 1) 0 → (f ≡ 1 → ⊥) → Followed L S at h S Odd
+  pub turn_clause_odd : (k f : ℕ) → k ≡ kind_at L at → k ≡ 10 → f ≡ get_or S (h - 1) 0 → (f ≡ 1 → ⊥) → Followed L S at h S (std.Err Odd)
   turn_clause_odd k f ek e ef n = record { long = refl; forward = tt; says = λ w G r. clause_odd (get_or S (h - 1) 0) _ _ G (λ z. n (ef ∙ z)) (inner w G r) (no_comma w) (no_close w) (operator_not w L at (λ a b. omega arith)) }
 
-  pub turn_other_odd : (k : ℕ) → k ≡ kind_at L at → (k ≡ 10 → ⊥) → (11 ≤ k → k < 14 → ⊥) → Followed L S at h S Odd
+  pub turn_other_odd : (k : ℕ) → k ≡ kind_at L at → (k ≡ 10 → ⊥) → (11 ≤ k → k < 14 → ⊥) → Followed L S at h S (std.Err Odd)
   turn_other_odd k ek n m = record { long = refl; forward = tt; says = λ w G r. others_odd (get_or S (h - 1) 0) _ _ G (inner w G r) (no_comma w) (no_close w) (operator_not w L at (λ a b. m (omega arith) (omega arith))) (mark_not w L at semicolon (λ e. n (ek ∙ e))) }
 
-  pub turn_body_odd : (k f : ℕ) → k ≡ kind_at L at → (k ≡ 10 → ⊥) → f ≡ get_or S (h - 1) 0 → f ≡ 1 → Followed L S at h S Odd
+  pub turn_body_odd : (k f : ℕ) → k ≡ kind_at L at → (k ≡ 10 → ⊥) → f ≡ get_or S (h - 1) 0 → f ≡ 1 → Followed L S at h S (std.Err Odd)
   turn_body_odd k f ek n ef e = record { long = refl; forward = tt; says = λ w G r. body_odd (frames S (h - 1)) (toks w L at) G (subst (λ (g : ℕ). Reached (g ∷ frames S (h - 1)) (toks w L at) G) (sym ef ∙ e) (inner w G r)) (no_comma w) (mark_not w L at semicolon (λ z. n (ek ∙ z))) (no_close w) }
 
-  pub turn_operator : (k f : ℕ) → k ≡ kind_at L at → 11 ≤ k → k < 14 → f ≡ get_or S (h - 1) 0 → (f ≡ 1 → ⊥) → Followed L S at h (set S (h - 1) 1) (Next (at + 1) h)
+  pub turn_operator : (k f : ℕ) → k ≡ kind_at L at → 11 ≤ k → k < 14 → f ≡ get_or S (h - 1) 0 → (f ≡ 1 → ⊥) → Followed L S at h (set S (h - 1) 1) (std.Ok (Next (at + 1) h))
   turn_operator k f ek a b ef n =
       let i = kind_inside L at (omega arith) in
       record {
@@ -92,7 +95,7 @@ module _ (L S : List ℕ) (at h : ℕ) (can : CanTurn L S at h) where
   hidden_forward : (from rest count : ℕ) → from ≤ length L → HiddenTo L from (To rest count) → (from ≤ rest) × (rest ≤ length L)
   hidden_forward from rest count i hd = elim hd.place [ inl q ↦ (omega (arith, q.1), omega (arith, q.1)) | inr q ↦ (omega (arith, q.1), q.2) ]
 
-  pub turn_next : (k f rest count : ℕ) → k ≡ kind_at L at → k ≡ 10 → f ≡ get_or S (h - 1) 0 → f ≡ 1 → HiddenTo L (at + 1) (To rest count) → Followed L S at h (set S (h - 1) 2) (Next rest h)
+  pub turn_next : (k f rest count : ℕ) → k ≡ kind_at L at → k ≡ 10 → f ≡ get_or S (h - 1) 0 → f ≡ 1 → HiddenTo L (at + 1) (To rest count) → Followed L S at h (set S (h - 1) 2) (std.Ok (Next rest h))
   turn_next k f rest count ek e ef ff hd =
       let i = kind_inside L at (omega arith) in
       let q = hidden_forward (at + 1) rest count (omega arith) hd in
@@ -103,7 +106,7 @@ module _ (L S : List ℕ) (at h : ℕ) (can : CanTurn L S at h) where
             subst (λ (F : List ℕ). Opens F (toks w L rest) G) (sym (frames_new S h 2 can.inner can.height)) (body_next (frames S (h - 1)) (toks w L at) (toks w L (at + 1)) (toks w L rest) _ G (body w G f ef ff r) (no_comma w) (mark_here w L at semicolon (sym ek ∙ e)) (hd.reads w));
       }
 
-  pub turn_next_odd : (k f : ℕ) → k ≡ kind_at L at → k ≡ 10 → f ≡ get_or S (h - 1) 0 → f ≡ 1 → HiddenTo L (at + 1) NoPhrase → Followed L S at h (set S (h - 1) 2) Odd
+  pub turn_next_odd : (k f : ℕ) → k ≡ kind_at L at → k ≡ 10 → f ≡ get_or S (h - 1) 0 → f ≡ 1 → HiddenTo L (at + 1) NoPhrase → Followed L S at h (set S (h - 1) 2) (std.Err Odd)
   turn_next_odd k f ek e ef ff hd = record { long = length-set S (h - 1) 2; forward = tt; says = λ w G r. body_next_odd (frames S (h - 1)) (toks w L at) (toks w L (at + 1)) G (body w G f ef ff r) (no_comma w) (mark_here w L at semicolon (sym ek ∙ e)) (hd w) }
 
 -- ---------------------------------------------------------------------------------------------
@@ -130,7 +133,7 @@ close_odd (suc zero) F us G l r c o = absurd (omega arith)
 close_odd (suc (suc n)) F us G l r c o = guard_odd n F us G r c o
 
 module _ (L S : List ℕ) (at h i d : ℕ) (can : CanFollow L S at h) (so_far : Closing L S at h i d) where
-  pub follow_comma : (k : ℕ) → k ≡ kind_at L i → k ≡ 5 → Followed L S at h S (Next (i + 1) d)
+  pub follow_comma : (k : ℕ) → k ≡ kind_at L i → k ≡ 5 → Followed L S at h S (std.Ok (Next (i + 1) d))
   follow_comma k ek e =
       let z = kind_inside L i (omega arith) in
       let a = so_far.height in
@@ -138,33 +141,33 @@ module _ (L S : List ℕ) (at h i d : ℕ) (can : CanFollow L S at h) (so_far : 
       let c = so_far.less in
       record { long = refl; forward = (omega arith, omega arith, omega arith, omega (arith, can.height)); says = λ w G r. reached_comma (frames S d) (toks w L i) (toks w L (i + 1)) G (so_far.says w G r) (mark_here w L i comma (sym ek ∙ e)) }
 
-  pub follow_done : (k : ℕ) → k ≡ kind_at L i → (k ≡ 5 → ⊥) → d ≡ 0 → Followed L S at h S (Done i)
+  pub follow_done : (k : ℕ) → k ≡ kind_at L i → (k ≡ 5 → ⊥) → d ≡ 0 → Followed L S at h S (std.Ok (Done i))
   unfolding frames
   follow_done k ek n e = record { long = refl; forward = (so_far.forward, so_far.inside); says = λ w G r. reached_end (toks w L i) G (subst (λ (m : ℕ). Reached (frames S m) (toks w L i) G) e (so_far.says w G r)) (mark_not w L i comma (λ z. n (ek ∙ z))) }
 
   pub can_turn : (k : ℕ) → k ≡ kind_at L i → (k ≡ 5 → ⊥) → (k ≡ 4 → ⊥) → (d ≡ 0 → ⊥) → CanTurn L S i d
   can_turn k ek a b n = record { inner = (let z : d ≡ 0 → ⊥ = n in omega arith); height = (let a = so_far.height in omega (arith, can.height)); comma = λ e. a (ek ∙ e); close = λ e. b (ek ∙ e) }
 
-  pub follow_turn : (S' : List ℕ) (r : Onward) → Followed L S i d S' r → Followed L S at h S' r
-  follow_turn S' (Next j height) f =
+  pub follow_turn : (S' : List ℕ) (r : std.Result Onward Unparsed) → Followed L S i d S' r → Followed L S at h S' r
+  follow_turn S' (std.Ok (Next j height)) f =
       let b = so_far.forward in
       let c = so_far.less in
       let u = f.forward in
       record { long = f.long; forward = (omega (arith, u.0), u.1, omega (arith, u.2), u.3); says = λ w G q. f.says w G (so_far.says w G q) }
-  follow_turn S' (Done rest) f =
+  follow_turn S' (std.Ok (Done rest)) f =
       let b = so_far.forward in
       let u = f.forward in
       record { long = f.long; forward = (omega (arith, u.0), u.1); says = λ w G q. f.says w G (so_far.says w G q) }
-  follow_turn S' Odd f = record { long = f.long; forward = tt; says = λ w G q. f.says w G (so_far.says w G q) }
-  follow_turn S' Full f = (let a = so_far.height in let b = so_far.forward in record { long = f.long; forward = (omega (arith, f.forward.0), omega (arith, f.forward.1)); says = λ w G q. tt })
+  follow_turn S' (std.Err Odd) f = record { long = f.long; forward = tt; says = λ w G q. f.says w G (so_far.says w G q) }
+  follow_turn S' (std.Err Short) f = (let a = so_far.height in let b = so_far.forward in record { long = f.long; forward = (omega (arith, f.forward.0), omega (arith, f.forward.1)); says = λ w G q. tt })
 
-  pub follow_turned : (S₁ S' : List ℕ) (r : Onward) → S₁ ≡ S → Followed L S₁ i d S' r → Followed L S at h S' r
+  pub follow_turned : (S₁ S' : List ℕ) (r : std.Result Onward Unparsed) → S₁ ≡ S → Followed L S₁ i d S' r → Followed L S at h S' r
   follow_turned S₁ S' r e f = follow_turn S' r (subst (λ (T : List ℕ). Followed L T i d S' r) e f)
 
   here : (w : ℕ → Name) (G : Read Statement) → (d ≡ 0 → ⊥) → Reached (frames S h) (toks w L at) G → Reached (get_or S (d - 1) 0 ∷ frames S (d - 1)) (toks w L i) G
   here w G n r = subst (λ (F : List ℕ). Reached F (toks w L i) G) (frames_top S d (omega arith)) (so_far.says w G r)
 
-  pub follow_odd : (k : ℕ) → k ≡ kind_at L i → k ≡ 4 → (d ≡ 0 → ⊥) → 1 < get_or S (d - 1) 0 → Followed L S at h S Odd
+  pub follow_odd : (k : ℕ) → k ≡ kind_at L i → k ≡ 4 → (d ≡ 0 → ⊥) → 1 < get_or S (d - 1) 0 → Followed L S at h S (std.Err Odd)
   follow_odd k ek e n g = record { long = refl; forward = tt; says = λ w G r. close_odd (get_or S (d - 1) 0) (frames S (d - 1)) (toks w L i) G g (here w G n r) (mark_not w L i comma (λ z. omega arith)) (operator_not w L i (λ a b. omega arith)) }
 
   pub follow_close : (k : ℕ) → k ≡ kind_at L i → k ≡ 4 → (d ≡ 0 → ⊥) → get_or S (d - 1) 0 ≤ 1 → Closing L S at h (i + 1) (d - 1)
@@ -183,5 +186,5 @@ module _ (L S : List ℕ) (at h i d : ℕ) (can : CanFollow L S at h) (so_far : 
       }
 
 -- the stack is as it was
-pub unmoved : (L S S' : List ℕ) (at h : ℕ) (r : Onward) → S' ≡ S → Followed L S at h S r → Followed L S at h S' r
+pub unmoved : (L S S' : List ℕ) (at h : ℕ) (r : std.Result Onward Unparsed) → S' ≡ S → Followed L S at h S r → Followed L S at h S' r
 unmoved L S S' at h r e f = subst (λ (T : List ℕ). Followed L S at h T r) (sym e) f

@@ -9,25 +9,22 @@ ghost use Rattle.read_statements.specs.Statements.{CanTurn, CanFollow, CanStep, 
 
 use read_phrases::{Phrase, Simple};
 
-// What follows: another simple statement; the outer statement's end; what is not of the grammar; or the stack is full.
+// What follows: another simple statement, or the outer statement's end.
 #[derive(Clone, Copy)]
 pub enum Onward {
     Next { at: usize, height: usize },
     Done { rest: usize },
-    Odd,
-    Full,
 }
 
-// Where a statement or a definition ends; there is none; or the stack is too short.
-#[derive(Clone, Copy)]
-pub enum End {
-    To(usize),
-    None,
+// Why nothing is read: the tokens are not of the grammar, or the stack is too short.
+#[derive(Clone, Copy, Debug, PartialEq, Eq)]
+pub enum Unparsed {
+    Odd,
     Short,
 }
 
 // Behind a statement in a bracket that does not close there: an operator, or a `;` and the next clause's hidden list.
-fn turn(codes: &[u8], stack: &mut [u8], h: usize, at: usize) -> Onward
+fn turn(codes: &[u8], stack: &mut [u8], h: usize, at: usize) -> Result<Onward, Unparsed>
     requires { CanTurn (triples codes.now) stack.old at h }
     ensures { Followed (triples codes.now) stack.old at h stack.new result }
 {
@@ -36,7 +33,7 @@ fn turn(codes: &[u8], stack: &mut [u8], h: usize, at: usize) -> Onward
     let f = stack[top];
     if k == 10 {
         if f != 1 {
-            return Onward::Odd;
+            return Err(Unparsed::Odd);
         }
         stack[top] = 2;
         let p = read_ends::hidden_end(codes, at + 1);
@@ -45,34 +42,34 @@ fn turn(codes: &[u8], stack: &mut [u8], h: usize, at: usize) -> Onward
                 rest,
                 count: _count,
             } => {
-                return Onward::Next {
+                return Ok(Onward::Next {
                     at: rest,
                     height: h,
-                };
+                });
             }
             Phrase::Odd => {
-                return Onward::Odd;
+                return Err(Unparsed::Odd);
             }
         }
     }
     if k < 11 {
-        return Onward::Odd;
+        return Err(Unparsed::Odd);
     }
     if 13 < k {
-        return Onward::Odd;
+        return Err(Unparsed::Odd);
     }
     if f == 1 {
-        return Onward::Odd;
+        return Err(Unparsed::Odd);
     }
     stack[top] = 1;
-    Onward::Next {
+    Ok(Onward::Next {
         at: at + 1,
         height: h,
-    }
+    })
 }
 
 // Behind a simple statement: brackets close until a comma, an operator or a `;` comes, or the outer statement ends.
-fn follow(codes: &[u8], stack: &mut [u8], h: usize, at: usize) -> Onward
+fn follow(codes: &[u8], stack: &mut [u8], h: usize, at: usize) -> Result<Onward, Unparsed>
     requires { CanFollow (triples codes.now) stack.old at h }
     ensures { Followed (triples codes.now) stack.old at h stack.new result }
 {
@@ -81,27 +78,27 @@ fn follow(codes: &[u8], stack: &mut [u8], h: usize, at: usize) -> Onward
     loop {
         let k = read_phrases::kind_at(codes, i);
         if k == 5 {
-            return Onward::Next {
+            return Ok(Onward::Next {
                 at: i + 1,
                 height: d,
-            };
+            });
         }
         if d == 0 {
-            return Onward::Done { rest: i };
+            return Ok(Onward::Done { rest: i });
         }
         if k != 4 {
             return turn(codes, stack, d, i);
         }
         d -= 1;
         if 1 < stack[d] {
-            return Onward::Odd;
+            return Err(Unparsed::Odd);
         }
         i += 1;
     }
 }
 
 // A simple statement, or the beginning of a bracket, and what follows.
-fn step(codes: &[u8], stack: &mut [u8], h: usize, at: usize) -> Onward
+fn step(codes: &[u8], stack: &mut [u8], h: usize, at: usize) -> Result<Onward, Unparsed>
     requires { CanStep (triples codes.now) stack.old h }
     ensures { Stepped (triples codes.now) stack.old at h stack.new result }
 {
@@ -116,7 +113,7 @@ fn step(codes: &[u8], stack: &mut [u8], h: usize, at: usize) -> Onward
         } => follow(codes, stack, h, rest),
         Simple::Bracket { inside } => {
             if stack.len() <= h {
-                return Onward::Full;
+                return Err(Unparsed::Short);
             }
             stack[h] = 0;
             let p = read_ends::hidden_end(codes, inside);
@@ -124,39 +121,33 @@ fn step(codes: &[u8], stack: &mut [u8], h: usize, at: usize) -> Onward
                 Phrase::To {
                     rest,
                     count: _count,
-                } => Onward::Next {
+                } => Ok(Onward::Next {
                     at: rest,
                     height: h + 1,
-                },
-                Phrase::Odd => Onward::Odd,
+                }),
+                Phrase::Odd => Err(Unparsed::Odd),
             }
         }
-        Simple::Odd => Onward::Odd,
+        Simple::Odd => Err(Unparsed::Odd),
     }
 }
 
 // Where the statement that begins at `at` ends.
-pub fn statement_end(codes: &[u8], stack: &mut [u8], at: usize) -> End
+pub fn statement_end(codes: &[u8], stack: &mut [u8], at: usize) -> Result<usize, Unparsed>
     requires { Known (triples codes.now) }
     ensures { StatementTo (triples codes.now) stack.old at result }
 {
     let mut i = at;
     let mut h = 0;
     loop {
-        let f = step(codes, stack, h, i);
-        match f {
+        let onward = step(codes, stack, h, i)?;
+        match onward {
             Onward::Next { at: next, height } => {
                 i = next;
                 h = height;
             }
             Onward::Done { rest } => {
-                return End::To(rest);
-            }
-            Onward::Odd => {
-                return End::None;
-            }
-            Onward::Full => {
-                return End::Short;
+                return Ok(rest);
             }
         }
     }

@@ -12,11 +12,7 @@ use Rattle.refusals.specs.Refusals.{number_of}
 use Rattle.read_tokens.specs.declared.Cursor.{Cursor}
 use Rattle.read_tokens.specs.Runs.{size_length}
 use Rattle.read_steps.specs.declared.Step.{Step}
-use Rattle.read_steps.specs.declared.Number.TheVariants as number
-use Rattle.read_steps.specs.declared.Line.{Line}
-use Rattle.read_steps.specs.declared.Line.TheVariants as line
-use Rattle.read_steps.specs.declared.Checked.{Checked}
-use Rattle.read_steps.specs.declared.Checked.TheVariants as checked_text
+use Rattle.std.specs.Prelude as std
 use Rattle.read_steps.specs.Numbers.{Moved, Numbered}
 
 -- The step of the definitions.
@@ -24,28 +20,28 @@ abbrev pub step : Step → akl.Step
 step t = record { rule = t.rule; place = t.place.0; argument = t.argument }
 
 -- What a line's answer says of the text s: the step and what is left, or a refusal.
-abbrev pub meant : List ℕ → Line → Result (akl.Step × List ℕ)
-meant s (line.At t c) = ok (step t, drop c.0 s)
-meant s (line.Refused f) = refused (number_of f)
+abbrev pub meant : List ℕ → std.Result (Step × Cursor) Refusal → Result (akl.Step × List ℕ)
+meant s (std.Ok (t, c)) = ok (step t, drop c.0 s)
+meant s (std.Err f) = refused (number_of f)
 
 -- "18": where there is no reading
 abbrev pub outcome : {A : Type 0} → Option A → Result A
 outcome none = refused 18
 outcome (some a) = ok a
 
-abbrev pub Forward : List ℕ → ℕ → Line → Type 0
-Forward s from (line.At t c) = Moved s from c.0
-Forward s from (line.Refused f) = Unit
+abbrev pub Forward : List ℕ → ℕ → std.Result (Step × Cursor) Refusal → Type 0
+Forward s from (std.Ok (t, c)) = Moved s from c.0
+Forward s from (std.Err f) = Unit
 
 -- What `read_line` promises of its answer r at the position `from` of s.
-pub record LineRead (s : List ℕ) (from : ℕ) (r : Line) : Type 0 where
+pub record LineRead (s : List ℕ) (from : ℕ) (r : std.Result (Step × Cursor) Refusal) : Type 0 where
   pub says : meant s r ≡ outcome (akl.line (drop from s))
   pub forward : Forward s from r
 
 -- What a text's answer says.
-abbrev pub checked : Checked → Result ℕ
-checked (checked_text.Steps n) = ok n
-checked (checked_text.Refused f) = refused (number_of f)
+abbrev pub checked : std.Result ℕ Refusal → Result ℕ
+checked (std.Ok n) = ok n
+checked (std.Err f) = refused (number_of f)
 
 -- the number of steps of a text that is read
 abbrev pub counted : Result (List akl.Step) → Result ℕ
@@ -67,42 +63,42 @@ unfolding akl.line first second third
 line_parts text = refl
 
 module _ (s : List ℕ) (from : ℕ) where
-  no_rule : Numbered s from 32 number.Nothing → akl.line (drop from s) ≡ none
+  no_rule : Numbered s from 32 std.None → akl.line (drop from s) ≡ none
   unfolding first
   no_rule R = line_parts (drop from s) ∙ ap first (sym R.says)
 
-  pub refused_rule : Numbered s from 32 number.Nothing → LineRead s from (line.Refused NotALine)
+  pub refused_rule : Numbered s from 32 std.None → LineRead s from (std.Err NotALine)
   refused_rule R = record { says = ap outcome (sym (no_rule R)); forward = tt }
 
-  module _ (r : ℕ) (c : Cursor) (R : Numbered s from 32 (number.At r c)) where
+  module _ (r : ℕ) (c : Cursor) (R : Numbered s from 32 (std.Some (r, c))) where
     at_rule : akl.line (drop from s) ≡ second r (akl.decimal_number 32 (drop c.0 s))
     unfolding first
     at_rule = line_parts (drop from s) ∙ ap first (sym R.says)
 
-    no_place : Numbered s c.0 32 number.Nothing → akl.line (drop from s) ≡ none
+    no_place : Numbered s c.0 32 std.None → akl.line (drop from s) ≡ none
     unfolding second
     no_place P = at_rule ∙ ap (second r) (sym P.says)
 
-    pub refused_place : Numbered s c.0 32 number.Nothing → LineRead s from (line.Refused NotALine)
+    pub refused_place : Numbered s c.0 32 std.None → LineRead s from (std.Err NotALine)
     refused_place P = record { says = ap outcome (sym (no_place P)); forward = tt }
 
-    module _ (p : ℕ) (d : Cursor) (P : Numbered s c.0 32 (number.At p d)) where
+    module _ (p : ℕ) (d : Cursor) (P : Numbered s c.0 32 (std.Some (p, d))) where
       at_place : akl.line (drop from s) ≡ third r p (akl.decimal_number 10 (drop d.0 s))
       unfolding second
       at_place = at_rule ∙ ap (second r) (sym P.says)
 
-      no_argument : Numbered s d.0 10 number.Nothing → akl.line (drop from s) ≡ none
+      no_argument : Numbered s d.0 10 std.None → akl.line (drop from s) ≡ none
       unfolding third
       no_argument A = at_place ∙ ap (third r p) (sym A.says)
 
-      pub refused_argument : Numbered s d.0 10 number.Nothing → LineRead s from (line.Refused NotALine)
+      pub refused_argument : Numbered s d.0 10 std.None → LineRead s from (std.Err NotALine)
       refused_argument A = record { says = ap outcome (sym (no_argument A)); forward = tt }
 
-      at_argument : (a : ℕ) (e : Cursor) → Numbered s d.0 10 (number.At a e) → akl.line (drop from s) ≡ some (record { rule = r; place = p; argument = a }, drop e.0 s)
+      at_argument : (a : ℕ) (e : Cursor) → Numbered s d.0 10 (std.Some (a, e)) → akl.line (drop from s) ≡ some (record { rule = r; place = p; argument = a }, drop e.0 s)
       unfolding third
       at_argument a e A = at_place ∙ ap (third r p) (sym A.says)
 
-      pub line_at : (a : ℕ) (e : Cursor) → Numbered s d.0 10 (number.At a e) → LineRead s from (line.At (record { rule = r; place = record { 0 = p }; argument = a }) e)
+      pub line_at : (a : ℕ) (e : Cursor) → Numbered s d.0 10 (std.Some (a, e)) → LineRead s from (std.Ok (record { rule = r; place = record { 0 = p }; argument = a }, e))
       line_at a e A =
           let x = R.forward in
           let y = P.forward in
@@ -117,7 +113,7 @@ total n (some ls) = ok (n + size ls)
 pub all_lines : List ℕ → Result ℕ
 all_lines s = total 0 (akl.lines (suc (size s)) s)
 
-pub too_long : (s : List ℕ) → steps_bytes < length s → checked (checked_text.Refused TooLong) ≡ counted (akl.read_steps s)
+pub too_long : (s : List ℕ) → steps_bytes < length s → checked (std.Err TooLong) ≡ counted (akl.read_steps s)
 unfolding akl.read_steps
 too_long s h =
     ap (λ (b : Bool). counted (if b (refused 1) (elim (akl.lines (suc (size s)) s) [ none ↦ refused 18 | some ls ↦ ok ls ])))
@@ -147,7 +143,7 @@ unfolding all_lines
 sofar_none s = record { turns = suc (size s); enough = omega (arith, size_length s); few = omega arith; inside = omega arith; same = refl }
 
 -- no byte is left
-pub sofar_end : (s : List ℕ) (at n : ℕ) → length s ≤ steps_bytes → Sofar s at n → length s ≤ at → checked (checked_text.Steps n) ≡ counted (akl.read_steps s)
+pub sofar_end : (s : List ℕ) (at n : ℕ) → length s ≤ steps_bytes → Sofar s at n → length s ≤ at → checked (std.Ok n) ≡ counted (akl.read_steps s)
 unfolding akl.lines size
 sofar_end s at n h S g = sym (go S.turns S.enough S.same) ∙ within s h
   where
@@ -172,9 +168,13 @@ outcome_some : {A : Type 0} (o : Option A) (a : A) → ok a ≡ outcome o → o 
 outcome_some none a e = absurd (let z : ◌≡◌ {A = ℕ} 0 1 = cc in omega arith)
 outcome_some (some b) a e = cc
 
+outcome_number : {A : Type 0} (o : Option A) (n : ℕ) → refused n ≡ outcome o → n ≡ 18
+outcome_number none n e = cc
+outcome_number (some a) n e = absurd (let z : ◌≡◌ {A = ℕ} 0 1 = cc in omega arith)
+
 -- a line that is not as described
-pub sofar_refused : (s : List ℕ) (at n : ℕ) → length s ≤ steps_bytes → Sofar s at n → at < length s → (f : Refusal) → LineRead s at (line.Refused f) → checked (checked_text.Refused NotALine) ≡ counted (akl.read_steps s)
-sofar_refused s at n h S g f L = sym (go S.turns S.enough S.same) ∙ within s h
+pub sofar_refused : (s : List ℕ) (at n : ℕ) → length s ≤ steps_bytes → Sofar s at n → at < length s → (f : Refusal) → LineRead s at (std.Err f) → checked (std.Err f) ≡ counted (akl.read_steps s)
+sofar_refused s at n h S g f L = ap (λ (k : ℕ). refused k) (outcome_number (akl.line (drop at s)) (number_of f) L.says) ∙ sym (go S.turns S.enough S.same) ∙ within s h
   where
     go : (k : ℕ) → length s - at < k → all_lines s ≡ total n (akl.lines k (drop at s)) → all_lines s ≡ refused 18
     go zero l e = absurd (omega arith)
@@ -182,7 +182,7 @@ sofar_refused s at n h S g f L = sym (go S.turns S.enough S.same) ∙ within s h
         e ∙ ap (total n) (turn s at k g ∙ ap (λ (o : Option (akl.Step × List ℕ)). o >>= λ l. akl.lines k l.1 >>= λ ls. some (l.0 ∷ ls)) (outcome_none (akl.line (drop at s)) (number_of f) L.says))
 
 -- one line more
-pub sofar_more : (s : List ℕ) (at n : ℕ) → Sofar s at n → at < length s → (t : Step) (c : Cursor) → LineRead s at (line.At t c) → Sofar s c.0 (n + 1)
+pub sofar_more : (s : List ℕ) (at n : ℕ) → Sofar s at n → at < length s → (t : Step) (c : Cursor) → LineRead s at (std.Ok (t, c)) → Sofar s c.0 (n + 1)
 unfolding size
 sofar_more s at n S g t c L = go S.turns S.enough S.same
   where

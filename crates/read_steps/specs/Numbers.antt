@@ -12,8 +12,8 @@ use Rattle.akl.specs.Token.{class_of, digit_class, span}
 use Rattle.akl.specs.StepsText.{digits_value, decimal_number}
 use Rattle.read_tokens.specs.Kinds.{cursor}
 use Rattle.read_tokens.specs.Runs.{span_more, span_stop, span_none}
-use Rattle.read_steps.specs.declared.Number.{Number}
-use Rattle.read_steps.specs.declared.Number.TheVariants.{At, Nothing}
+use Rattle.std.specs.Prelude as std
+use Rattle.read_tokens.specs.declared.Cursor.{Cursor}
 
 -- The number with one digit more, kept where it is too large already.
 abbrev pub capped : ℕ → ℕ → ℕ
@@ -25,20 +25,20 @@ pub record CanAdd (n b : ℕ) : Type 0 where
   pub high : b ≤ 57
 
 -- What a number's reading says of the text s: the number and what is left.
-abbrev pub meant : List ℕ → Number → Option (ℕ × List ℕ)
-meant s (At n c) = some (n, drop c.0 s)
-meant s Nothing = none
+abbrev pub meant : List ℕ → std.Option (ℕ × Cursor) → Option (ℕ × List ℕ)
+meant s (std.Some (n, c)) = some (n, drop c.0 s)
+meant s std.None = none
 
 -- The new position lies behind the old one and inside the text.
 pub record Moved (s : List ℕ) (from to : ℕ) : Type 0 where
   pub ahead : from < to
   pub inside : to ≤ length s
 
-abbrev pub Forward : List ℕ → ℕ → Number → Type 0
-Forward s from (At n c) = Moved s from c.0
-Forward s from Nothing = Unit
+abbrev pub Forward : List ℕ → ℕ → std.Option (ℕ × Cursor) → Type 0
+Forward s from (std.Some (n, c)) = Moved s from c.0
+Forward s from std.None = Unit
 
-pub record Numbered (s : List ℕ) (from follows : ℕ) (r : Number) : Type 0 where
+pub record Numbered (s : List ℕ) (from follows : ℕ) (r : std.Option (ℕ × Cursor)) : Type 0 where
   pub says : meant s r ≡ decimal_number follows (drop from s)
   pub forward : Forward s from r
 
@@ -140,7 +140,7 @@ and_false true = refl
 and_false false = refl
 
 module _ (s : List ℕ) (from i n follows : ℕ) (D : Digits s from i n) where
-  pub number_end : length s ≤ i → Numbered s from follows Nothing
+  pub number_end : length s ≤ i → Numbered s from follows std.None
   number_end g =
       let e : (span digit_class (drop from s)).1 ≡ [] = D.left ∙ ap (λ (l : List ℕ). (span digit_class l).1) (drop_of_length-le s g) ∙ ap (λ (w : List ℕ × List ℕ). w.1) (span_none digit_class) in
       record {
@@ -169,7 +169,7 @@ module _ (s : List ℕ) (from i n follows : ℕ) (D : Digits s from i n) where
     unfolding digits_value
     worth_all = D.worth ∙ ap (λ (w : List ℕ × List ℕ). digits_value D.true_value w.0) here
 
-    pub number_empty : i ≡ from → Numbered s from follows Nothing
+    pub number_empty : i ≡ from → Numbered s from follows std.None
     number_empty q =
         let z : i - from ≡ 0 = omega arith in
         record {
@@ -177,7 +177,7 @@ module _ (s : List ℕ) (from i n follows : ℕ) (D : Digits s from i n) where
           forward = tt;
         }
 
-    pub number_large : step_number ≤ n → Numbered s from follows Nothing
+    pub number_large : step_number ≤ n → Numbered s from follows std.None
     number_large q =
         let z : step_number ≤ D.true_value = large D.equal in
         let w = (span digit_class (drop from s)).0 in
@@ -190,10 +190,10 @@ module _ (s : List ℕ) (from i n follows : ℕ) (D : Digits s from i n) where
         large (inl p) = omega arith
         large (inr p) = p.1
 
-    pub number_other : (get_or s i 0 ≡ follows → ⊥) → Numbered s from follows Nothing
+    pub number_other : (get_or s i 0 ≡ follows → ⊥) → Numbered s from follows std.None
     number_other q = record { says = sym (whole ∙ parted_other follows _ _ _ q); forward = tt }
 
-    pub number_at : (i ≡ from → ⊥) → n < step_number → get_or s i 0 ≡ follows → Numbered s from follows (At n (cursor (i + 1)))
+    pub number_at : (i ≡ from → ⊥) → n < step_number → get_or s i 0 ≡ follows → Numbered s from follows (std.Some (n, cursor (i + 1)))
     number_at a b q =
         let w = (span digit_class (drop from s)).0 in
         let v : digits_value 0 w ≡ n = worth_all ∙ exact D.equal in

@@ -5,7 +5,6 @@ ghost use Rattle.std.specs.Prelude.{◌≡◌};
 ghost use Rattle.read_steps.specs.Numbers.{CanAdd, capped, Numbered};
 
 use read_tokens::Cursor;
-use refusals::Refusal;
 
 // A place's number in a configuration.
 #[derive(Clone, Copy)]
@@ -17,27 +16,6 @@ pub struct Step {
     pub rule: u64,
     pub place: Place,
     pub argument: u64,
-}
-
-// A number and the position behind the byte that follows it, or no number there.
-#[derive(Clone, Copy)]
-pub enum Number {
-    At(u64, Cursor),
-    Nothing,
-}
-
-// A line's step and the position behind its newline, or a refusal.
-#[derive(Clone, Copy)]
-pub enum Line {
-    At(Step, Cursor),
-    Refused(Refusal),
-}
-
-// The number of a text's steps, or a refusal.
-#[derive(Clone, Copy)]
-pub enum Checked {
-    Steps(usize),
-    Refused(Refusal),
 }
 
 fn wide(b: u8) -> u64
@@ -58,33 +36,29 @@ fn with_digit(n: u64, b: u8) -> u64
     }
 }
 
-// The decimal number from `at` on, which the byte `follows` must follow.
-pub fn read_number(s: &[u8], at: Cursor, follows: u8) -> Number
+// The decimal number from `at` on, which the byte `follows` must follow, and the position behind that byte.
+pub fn read_number(s: &[u8], at: Cursor, follows: u8) -> Option<(u64, Cursor)>
     ensures { Numbered s.now at.0 follows result }
 {
     let from = at.0;
-    let mut i = from;
     let mut n: u64 = 0;
-    loop {
-        if s.len() <= i {
-            return Number::Nothing; // nothing follows
-        }
+    for i in from..s.len() {
         let b = s[i];
         let more = read_bytes::is_digit(b);
         if more {
             n = with_digit(n, b);
-            i += 1;
         } else {
             if i == from {
-                return Number::Nothing; // no digit
+                return None; // no digit
             }
             if 4294967296 <= n {
-                return Number::Nothing;
+                return None;
             }
             if b != follows {
-                return Number::Nothing;
+                return None;
             }
-            return Number::At(n, Cursor(i + 1));
+            return Some((n, Cursor(i + 1)));
         }
     }
+    None // nothing follows
 }

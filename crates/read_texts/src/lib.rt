@@ -7,8 +7,8 @@ ghost use Rattle.akl.specs.Parse.{parse_query};
 ghost use Rattle.read_lexicon.specs.Lexicon.{Lexicon};
 ghost use Rattle.read_texts.specs.Texts.{Answered};
 
-use read_grammar::Verdict;
-use read_lexed::Lexed;
+use read_lexed::NotLexed;
+use read_statements::Unparsed;
 
 // How many tokens a text has, and how many nodes its names; or it is too long; not of the grammar; or a table or the stack is
 // too short.
@@ -38,19 +38,19 @@ pub fn query_text(
     }
     let l = read_tokenise::tokenise(text, codes, cells, heads, nexts, n);
     match l {
-        Lexed::All(k, m) => {
+        Ok((k, m)) => {
             let e = 3 * k;
             let v = read_shapes::query_is(&codes[..e], stack);
             match v {
-                Verdict::Of => Readable::Yes {
+                Ok(()) => Readable::Yes {
                     tokens: k,
                     names: m, // those of `true` and `fail` among them
                 },
-                Verdict::NotOf => Readable::Odd, // the tokens are no query
-                Verdict::NoRoom => Readable::Short,
+                Err(Unparsed::Odd) => Readable::Odd, // the tokens are no query
+                Err(Unparsed::Short) => Readable::Short,
             }
         }
-        Lexed::Bad => Readable::Odd, // some bytes are no token
-        Lexed::Full => Readable::Short,
+        Err(NotLexed::Bad) => Readable::Odd, // some bytes are no token
+        Err(NotLexed::Full) => Readable::Short,
     }
 }

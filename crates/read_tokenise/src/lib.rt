@@ -5,11 +5,10 @@ ghost use Rattle.mem_numbers.specs.Numbers.{shorts, triples};
 ghost use Rattle.read_nodes.specs.Trie.{Trie};
 ghost use Rattle.read_lexed.specs.Table.{Tokenised};
 
-use read_lexed::Lexed;
+use read_lexed::NotLexed;
 use read_tokens::{Cursor, Next};
-use read_trie::Child;
 
-// Codes all tokens of a text.
+// Codes all tokens of a text: how many codes and nodes there are then.
 pub fn tokenise(
     text: &[u8],
     codes: &mut [u8],
@@ -17,7 +16,7 @@ pub fn tokenise(
     heads: &mut [u8],
     nexts: &mut [u8],
     n: usize,
-) -> Lexed
+) -> Result<(usize, usize), NotLexed>
     requires { Trie (triples cells.old) (shorts heads.old) (shorts nexts.old) n }
     ensures { Tokenised text.now (triples codes.old) (triples cells.old) (shorts heads.old) (shorts nexts.old) n (triples codes.new) (triples cells.new) (shorts heads.new) (shorts nexts.new) result }
 {
@@ -28,10 +27,10 @@ pub fn tokenise(
         let next = Cursor(at).next(text);
         match next {
             Next::End => {
-                return Lexed::All(k, m);
+                return Ok((k, m));
             }
             Next::Bad => {
-                return Lexed::Bad;
+                return Err(NotLexed::Bad);
             }
             Next::Token {
                 kind,
@@ -39,15 +38,14 @@ pub fn tokenise(
                 len,
                 rest,
             } => {
-                if mem_numbers::triple_count(codes) <= k {
-                    return Lexed::Full;
+                if mem_numbers::count::<3>(codes) <= k {
+                    return Err(NotLexed::Full);
                 }
-                let Child::At(c, l) = read_lexed::code(
-                    text, kind, from, len, cells, heads, nexts, m,
-                ) else {
-                    return Lexed::Full;
+                let Some((c, l)) = read_lexed::code(text, kind, from, len, cells, heads, nexts, m)
+                else {
+                    return Err(NotLexed::Full);
                 };
-                mem_numbers::triple_put(codes, k, c);
+                mem_numbers::put::<3>(codes, k, c);
                 k += 1;
                 m = l;
                 at = rest.0;

@@ -7,7 +7,8 @@ use Rattle.akl.specs.Token as akl
 use Rattle.read_tokens.specs.declared.Kind.{Kind}
 use Rattle.read_tokens.specs.declared.Kind.TheVariants.{Name, Digits, Variable, OpenBracket, CloseBracket, Comma, FullStop, Colon, Defines, Equals, Semicolon, Wait, Cond, Commit}
 use Rattle.read_tokens.specs.declared.Sign.{Sign}
-use Rattle.read_tokens.specs.declared.Sign.TheVariants.{One, Two, NoSign}
+use Rattle.std.specs.Prelude as std
+use Rattle.read_tokens.specs.declared.Sign.TheVariants.{One, Two}
 use Rattle.read_tokens.specs.declared.Cursor.{Cursor}
 use Rattle.read_tokens.specs.declared.Next.{Next}
 use Rattle.read_tokens.specs.declared.Next.TheVariants.{Token, Bad}
@@ -30,28 +31,28 @@ token_of Cond w = akl.sign (akl.operator cond)
 token_of Commit w = akl.sign (akl.operator commit)
 
 -- the mark that the byte b begins, y behind it
-abbrev pub sign_of : ℕ → ℕ → Sign
+abbrev pub sign_of : ℕ → ℕ → std.Option Sign
 sign_of b y =
-    if (eqb b 40) (One OpenBracket)
-    (if (eqb b 41) (One CloseBracket)
-    (if (eqb b 44) (One Comma)
-    (if (eqb b 45) (if (eqb 62 y) (Two Cond) NoSign)
-    (if (eqb b 46) (One FullStop)
-    (if (eqb b 58) (if (eqb 61 y) (Two Defines) (One Colon))
-    (if (eqb b 59) (One Semicolon)
-    (if (eqb b 61) (One Equals)
-    (if (eqb b 63) (One Wait)
-    (if (eqb b 124) (One Commit) NoSign)))))))))
+    if (eqb b 40) (std.Some (One OpenBracket))
+    (if (eqb b 41) (std.Some (One CloseBracket))
+    (if (eqb b 44) (std.Some (One Comma))
+    (if (eqb b 45) (if (eqb 62 y) (std.Some (Two Cond)) std.None)
+    (if (eqb b 46) (std.Some (One FullStop))
+    (if (eqb b 58) (if (eqb 61 y) (std.Some (Two Defines)) (std.Some (One Colon)))
+    (if (eqb b 59) (std.Some (One Semicolon))
+    (if (eqb b 61) (std.Some (One Equals))
+    (if (eqb b 63) (std.Some (One Wait))
+    (if (eqb b 124) (std.Some (One Commit)) std.None)))))))))
 
 -- the cursor at a position
 abbrev pub cursor : ℕ → Cursor
 cursor n = record { 0 = n }
 
 -- what is read where the mark stands at `at`
-abbrev pub placed : ℕ → Sign → Next
-placed at (One k) = Token k at 1 (cursor (at + 1))
-placed at (Two k) = Token k at 2 (cursor (at + 1 + 1))
-placed at NoSign = Bad
+abbrev pub placed : ℕ → std.Option Sign → Next
+placed at (std.Some (One k)) = Token k at 1 (cursor (at + 1))
+placed at (std.Some (Two k)) = Token k at 2 (cursor (at + 1 + 1))
+placed at std.None = Bad
 
 -- what is read where the bytes of a name, a variable or digits stand from `at` to `end`
 abbrev pub spelled_of : Kind → ℕ → ℕ → Next

@@ -8,7 +8,8 @@ use Rattle.akl.specs.Limits.{name_bytes}
 use Rattle.akl.specs.Token as akl
 use Rattle.read_tokens.specs.declared.Kind.{Kind}
 use Rattle.read_tokens.specs.declared.Sign.{Sign}
-use Rattle.read_tokens.specs.declared.Sign.TheVariants.{One, Two, NoSign}
+use Rattle.std.specs.Prelude as std
+use Rattle.read_tokens.specs.declared.Sign.TheVariants.{One, Two}
 use Rattle.read_tokens.specs.declared.Next.{Next}
 use Rattle.read_tokens.specs.declared.Next.TheVariants.{Token, End, Bad}
 use Rattle.read_tokens.specs.Kinds.{token_of, sign_of, placed, spelled_of, cursor}
@@ -133,31 +134,31 @@ module _ (s : List ℕ) (from at : ℕ) (P : Passed s from at) where
           (sym (sign_marked (get_or s at 0) (take 1 (drop at s)) (take 2 (drop at s)) (drop (suc at) s))
           ∙ ap (λ (y : ℕ). marks (sign_of (get_or s at 0) y) (take 1 (drop at s)) (take 2 (drop at s)) (drop (suc at) s)) second)
 
-      inner : (k : Kind) → sign_of (get_or s at 0) (get_or s (at + 1) 0) ≡ Two k → length s ≤ at + 1 → ⊥
+      inner : (k : Kind) → sign_of (get_or s at 0) (get_or s (at + 1) 0) ≡ std.Some (Two k) → length s ≤ at + 1 → ⊥
       inner k z h = subst Single (ap (sign_of (get_or s at 0)) (sym (get_or-eq_default s 0 h)) ∙ z) (single (get_or s at 0))
 
-      within : (k : Kind) → sign_of (get_or s at 0) (get_or s (at + 1) 0) ≡ Two k → at + 1 < length s
+      within : (k : Kind) → sign_of (get_or s at 0) (get_or s (at + 1) 0) ≡ std.Some (Two k) → at + 1 < length s
       within k z = by_cases (leb (length s) (at + 1)) refl
         where
           by_cases : (b : Bool) → leb (length s) (at + 1) ≡ b → at + 1 < length s
           by_cases true v = absurd (inner k z (leb-true (length s) (at + 1) v))
           by_cases false v = leb-false (length s) (at + 1) v
 
-      go : (m : Sign) → sign_of (get_or s at 0) (get_or s (at + 1) 0) ≡ m → Reads s from r
-      go (One k) z =
+      go : (m : std.Option Sign) → sign_of (get_or s at 0) (get_or s (at + 1) 0) ≡ m → Reads s from r
+      go (std.Some (One k)) z =
           let b = P.behind in
-          let f' = f ∙ ap (λ (m : Sign). found (next_token (drop (suc at) s)) (marks m (take 1 (drop at s)) (take 2 (drop at s)) (drop (suc at) s))) z in
+          let f' = f ∙ ap (λ (m : std.Option Sign). found (next_token (drop (suc at) s)) (marks m (take 1 (drop at s)) (take 2 (drop at s)) (drop (suc at) s))) z in
           let d : drop (suc at) s ≡ drop (at + 1) s = ap (λ (n : ℕ). drop n s) (sym (add-one at)) in
           subst (Reads s from) (sym (q ∙ ap (placed at) z))
           (record { says = sym (f' ∙ ap (next (token_of k (take 1 (drop at s)))) d); forward = record { behind = b; some = omega arith; short = omega arith; past = omega arith; inside = omega arith } })
-      go (Two k) z =
+      go (std.Some (Two k)) z =
           let b = P.behind in
           let h = within k z in
-          let f' = f ∙ ap (λ (m : Sign). found (next_token (drop (suc at) s)) (marks m (take 1 (drop at s)) (take 2 (drop at s)) (drop (suc at) s))) z in
+          let f' = f ∙ ap (λ (m : std.Option Sign). found (next_token (drop (suc at) s)) (marks m (take 1 (drop at s)) (take 2 (drop at s)) (drop (suc at) s))) z in
           let n : suc at + 1 ≡ at + 1 + 1 = omega arith in
           let d : drop 1 (drop (suc at) s) ≡ drop (at + 1 + 1) s = drop-drop 1 (suc at) s ∙ ap (λ (n : ℕ). drop n s) n in
           subst (Reads s from) (sym (q ∙ ap (placed at) z))
           (record { says = sym (f' ∙ ap (next (token_of k (take 2 (drop at s)))) d); forward = record { behind = b; some = omega arith; short = omega arith; past = omega arith; inside = omega arith } })
-      go NoSign z =
-          let f' = f ∙ ap (λ (m : Sign). found (next_token (drop (suc at) s)) (marks m (take 1 (drop at s)) (take 2 (drop at s)) (drop (suc at) s))) z in
+      go std.None z =
+          let f' = f ∙ ap (λ (m : std.Option Sign). found (next_token (drop (suc at) s)) (marks m (take 1 (drop at s)) (take 2 (drop at s)) (drop (suc at) s))) z in
           subst (Reads s from) (sym (q ∙ ap (placed at) z)) (record { says = sym f'; forward = tt })

@@ -6,7 +6,8 @@ use Rattle.akl.specs.Base.{size, if, ◌>>=◌}
 use Rattle.akl.specs.Token.{Class, small, capital, digit, underscore, blank, mark, other, class_of, word_class, digit_class, Token, name, digits, variable, span, fits, Lexed, passed, token, bad, word, lexed, tokens_in, tokens}
 use Rattle.read_tokens.specs.declared.Next.{Next}
 use Rattle.read_tokens.specs.declared.Sign.{Sign}
-use Rattle.read_tokens.specs.declared.Sign.TheVariants.{One, Two, NoSign}
+use Rattle.std.specs.Prelude as std
+use Rattle.read_tokens.specs.declared.Sign.TheVariants.{One, Two}
 use Rattle.read_tokens.specs.Kinds.{sign_of}
 use Rattle.read_tokens.specs.Marks.{marks, sign_marked}
 use Rattle.read_tokens.specs.Runs.{span_more}
@@ -37,12 +38,12 @@ word_left make l w h = go (fits w.0)
 run_left : (p : Class → Bool) (x : ℕ) (l : List ℕ) → p (class_of x) ≡ true → size (span p (x ∷ l)).1 ≤ size l
 run_left p x l e = subst (λ (w : List ℕ × List ℕ). size w.1 ≤ size l) (sym (span_more p x l e)) (span_left p l)
 
-marks_left : (m : Sign) (l : List ℕ) → Left l (marks m [] [] l)
+marks_left : (m : std.Option Sign) (l : List ℕ) → Left l (marks m [] [] l)
 unfolding size
-marks_left (One k) l = omega arith
-marks_left (Two k) [] = omega arith
-marks_left (Two k) (x ∷ l) = omega arith
-marks_left NoSign l = tt
+marks_left (std.Some (One k)) l = omega arith
+marks_left (std.Some (Two k)) [] = omega arith
+marks_left (std.Some (Two k)) (x ∷ l) = omega arith
+marks_left std.None l = tt
 
 lexed_left : (c : Class) (x : ℕ) (l : List ℕ) → class_of x ≡ c → Left l (lexed c x l)
 lexed_left small x l e = word_left name l (span word_class (x ∷ l)) (run_left word_class x l (ap word_class e))

@@ -28,12 +28,11 @@ pub enum Kind {
     Commit,
 }
 
-// A mark at the head of some bytes: of one byte, of two, or none.
+// A mark at the head of some bytes: of one byte, or of two.
 #[derive(Clone, Copy)]
 enum Sign {
     One(Kind),
     Two(Kind),
-    NoSign,
 }
 
 // A reading position.
@@ -41,7 +40,7 @@ enum Sign {
 pub struct Cursor(pub usize);
 
 // What reading at a cursor finds: a token of `len` bytes from `at` on, with the cursor behind it; the end of the text; or
-// bytes that are no token.
+// bytes that are no token. An enum of its own: as a Result of an Option, each of its three answers would have to be wrapped twice.
 #[derive(Clone, Copy)]
 pub enum Next {
     Token {
@@ -54,34 +53,34 @@ pub enum Next {
     Bad,
 }
 
-// The mark that `b` begins, where `then` is the byte behind it: the longest first.
-fn sign_of(b: u8, then: u8) -> Sign
+// The mark that `b` begins, if it begins one, where `then` is the byte behind it: the longest first.
+fn sign_of(b: u8, then: u8) -> Option<Sign>
     ensures { result ≡ sign_of b then }
 {
     match b {
-        b'(' => Sign::One(Kind::OpenBracket),
-        b')' => Sign::One(Kind::CloseBracket),
-        b',' => Sign::One(Kind::Comma),
+        b'(' => Some(Sign::One(Kind::OpenBracket)),
+        b')' => Some(Sign::One(Kind::CloseBracket)),
+        b',' => Some(Sign::One(Kind::Comma)),
         b'-' => {
             if then == b'>' {
-                Sign::Two(Kind::Cond)
+                Some(Sign::Two(Kind::Cond))
             } else {
-                Sign::NoSign
+                None
             }
         }
-        b'.' => Sign::One(Kind::FullStop),
+        b'.' => Some(Sign::One(Kind::FullStop)),
         b':' => {
             if then == b'=' {
-                Sign::Two(Kind::Defines)
+                Some(Sign::Two(Kind::Defines))
             } else {
-                Sign::One(Kind::Colon)
+                Some(Sign::One(Kind::Colon))
             }
         }
-        b';' => Sign::One(Kind::Semicolon),
-        b'=' => Sign::One(Kind::Equals),
-        b'?' => Sign::One(Kind::Wait),
-        b'|' => Sign::One(Kind::Commit),
-        _ => Sign::NoSign,
+        b';' => Some(Sign::One(Kind::Semicolon)),
+        b'=' => Some(Sign::One(Kind::Equals)),
+        b'?' => Some(Sign::One(Kind::Wait)),
+        b'|' => Some(Sign::One(Kind::Commit)),
+        _ => None,
     }
 }
 
@@ -90,37 +89,26 @@ fn word_end(s: &[u8], at: usize) -> usize
     requires { at ≤ length s.now }
     ensures { Ends word_class s.now at result }
 {
-    let mut i = at;
-    loop {
-        if s.len() <= i {
-            return i;
-        }
-        let more = read_bytes::is_word(s[i]);
-        if more {
-            i += 1;
-        } else {
+    for i in at..s.len() {
+        if !read_bytes::is_word(s[i]) {
             return i;
         }
     }
+    s.len()
 }
 
-// The end of the run of digits from `at` on.
+// The end of the run of digits from `at` on. A function of its own: taking the test as a closure, it would have to take its class, too, as
+// a ghost argument.
 fn digits_end(s: &[u8], at: usize) -> usize
     requires { at ≤ length s.now }
     ensures { Ends digit_class s.now at result }
 {
-    let mut i = at;
-    loop {
-        if s.len() <= i {
-            return i;
-        }
-        let more = read_bytes::is_digit(s[i]);
-        if more {
-            i += 1;
-        } else {
+    for i in at..s.len() {
+        if !read_bytes::is_digit(s[i]) {
             return i;
         }
     }
+    s.len()
 }
 
 // The token of the bytes from `at` to `end`, which are too many for a name from 33 on.
@@ -155,8 +143,10 @@ fn mark_at(s: &[u8], at: usize) -> Next
 {
     let n = at + 1;
     let then = byte_at(s, n);
-    let m = sign_of(s[at], then);
-    match m {
+    let Some(sign) = sign_of(s[at], then) else {
+        return Next::Bad;
+    };
+    match sign {
         Sign::One(kind) => Next::Token {
             kind,
             at,
@@ -169,7 +159,6 @@ fn mark_at(s: &[u8], at: usize) -> Next
             len: 2,
             rest: Cursor(n + 1),
         },
-        Sign::NoSign => Next::Bad,
     }
 }
 
@@ -203,10 +192,7 @@ impl Cursor {
                 Class::Mark => {
                     return mark_at(s, at);
                 }
-                Class::Underscore => {
-                    return Next::Bad;
-                }
-                Class::Other => {
+                Class::Underscore | Class::Other => {
                     return Next::Bad;
                 }
             }

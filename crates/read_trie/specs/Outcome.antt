@@ -2,8 +2,7 @@
 use Rattle.std.specs.Prelude.{◌≡◌, refl, List, ℕ, ◌+◌, ◌/◌, ◌<◌, ◌≤◌, get_or}
 use Rattle.std.proofs.Common.{◌∙◌, subst, arith}
 use Rattle.mem_numbers.specs.Stored.{Stored}
-use Rattle.read_trie.specs.declared.Child.{Child}
-use Rattle.read_trie.specs.declared.Child.TheVariants.{At, Full}
+use Rattle.std.specs.Prelude as std
 use Rattle.read_nodes.specs.Trie.{Roomy, Trie, Grown, Kept}
 use Rattle.read_trie.specs.Names.{grown_none}
 use Rattle.read_trie.specs.Grows.{Fresh, Ahead, ahead_end, trie_more, grown_more, cell_more}
@@ -32,12 +31,12 @@ pub record Placed (N : List ℕ) (n c : ℕ) (N' H' S' : List ℕ) (q m : ℕ) :
   -- where no node had the cell, q is a new one, behind the others
   pub new : Fresh N n c → (q ≡ n) × (m ≡ n + 1)
 
-abbrev pub Put : List ℕ → List ℕ → List ℕ → ℕ → ℕ → List ℕ → List ℕ → List ℕ → Child → Type 0
-Put N H S n c N' H' S' (At q m) = Placed N n c N' H' S' q m
-Put N H S n c N' H' S' Full = Roomy N H S (n + 1) → ⊥
+abbrev pub Put : List ℕ → List ℕ → List ℕ → ℕ → ℕ → List ℕ → List ℕ → List ℕ → std.Option (ℕ × ℕ) → Type 0
+Put N H S n c N' H' S' (std.Some (q, m)) = Placed N n c N' H' S' q m
+Put N H S n c N' H' S' std.None = Roomy N H S (n + 1) → ⊥
 
 -- What `child_of` promises of its answer r.
-pub record Childed (N H S : List ℕ) (n c : ℕ) (N' H' S' : List ℕ) (r : Child) : Type 0 where
+pub record Childed (N H S : List ℕ) (n c : ℕ) (N' H' S' : List ℕ) (r : std.Option (ℕ × ℕ)) : Type 0 where
   pub kept : Kept N H S N' H' S'
   pub put : Put N H S n c N' H' S' r
 
@@ -48,7 +47,7 @@ pub kept_twice : {N H S N' H' S' N'' H'' S'' : List ℕ} → Kept N H S N' H' S'
 kept_twice K L = record { cells = L.cells ∙ K.cells; heads = L.heads ∙ K.heads; nexts = L.nexts ∙ K.nexts }
 
 -- the node n is made
-pub made : {N H S N' H₁ H' S' : List ℕ} {n p c f : ℕ} → CanMake N H S n p c → Roomy N H S (n + 1) → f ≡ get_or H p 0 → Stored N n c N' → Stored S n f S' → Stored H n 0 H₁ → Stored H₁ p n H' → Childed N H S n c N' H' S' (At n (n + 1))
+pub made : {N H S N' H₁ H' S' : List ℕ} {n p c f : ℕ} → CanMake N H S n p c → Roomy N H S (n + 1) → f ≡ get_or H p 0 → Stored N n c N' → Stored S n f S' → Stored H n 0 H₁ → Stored H₁ p n H' → Childed N H S n c N' H' S' (std.Some (n, n + 1))
 made {N} {H} {S} {N'} {H₁} {H'} {S'} {n} {p} {c} {f} C R e sN sS sH₁ sH =
     let s = subst (λ (x : ℕ). Stored S n x S') e sS in
     let t = C.trie in
@@ -67,7 +66,7 @@ made {N} {H} {S} {N'} {H₁} {H'} {S'} {n} {p} {c} {f} C R e sN sS sH₁ sH =
     }
 
 -- the node q is found
-pub found : {N H S : List ℕ} {n p q c : ℕ} → CanChild N H S n p → 0 < q → q < n → get_or N q 0 ≡ c → Childed N H S n c N H S (At q n)
+pub found : {N H S : List ℕ} {n p q c : ℕ} → CanChild N H S n p → 0 < q → q < n → get_or N q 0 ≡ c → Childed N H S n c N H S (std.Some (q, n))
 found {N} {H} {S} {n} {p} {q} {c} C g h e =
     record { kept = kept_none N H S; put = record { trie = C.trie; grown = grown_none N n; above = g; inside = h; cell = e; few = omega arith; new = λ F. absurd (F q g h e) } }
 

@@ -6,7 +6,7 @@ ghost use Rattle.mem_words.specs.Words.{words};
 ghost use Rattle.read_lookups.specs.Places.{ids};
 ghost use Rattle.read_varwords.specs.Vars.{CanVars, VarsTo};
 
-use read_varwords::Vars;
+use read_varwords::{Unwritten, Vars};
 
 // Writes the words of the `count` variables at every second token from `first` on, as `variable` does.
 pub fn variables(
@@ -19,41 +19,23 @@ pub fn variables(
     order: &mut [u8],
     q: usize,
     query: bool,
-) -> Vars
+) -> Result<Vars, Unwritten>
     requires { CanVars (triples codes.now) first count (words out.old) k (shorts binds.now) (shorts order.old) q }
     ensures { VarsTo (ids (triples codes.now) count first) (words out.old) k (shorts binds.now) (shorts order.old) q query (words out.new) (shorts order.new) result }
 {
-    let mut j = 0;
     let mut at = k;
     let mut m = q;
     let mut any = false;
-    while j < count {
-        let id = mem_numbers::triple_get(codes, first + 2 * j) / 256;
-        let v = read_varwords::variable(id, out, at, binds, order, m, query);
-        match v {
-            Vars::Done {
-                out: o,
-                known,
-                free,
-            } => {
-                j += 1;
-                at = o;
-                m = known;
-                if free {
-                    any = true;
-                }
-            }
-            Vars::Many => {
-                return Vars::Many;
-            }
-            Vars::Full => {
-                return Vars::Full;
-            }
-        }
+    for j in 0..count {
+        let id = mem_numbers::get::<3>(codes, first + 2 * j) / 256;
+        let v = read_varwords::variable(id, out, at, binds, order, m, query)?;
+        at = v.out;
+        m = v.known;
+        any |= v.free;
     }
-    Vars::Done {
+    Ok(Vars {
         out: at,
         known: m,
         free: any,
-    }
+    })
 }

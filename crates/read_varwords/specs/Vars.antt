@@ -1,6 +1,6 @@
 -- What writing the words of variables promises, and how two such writings join. Variables are numbers of names; w spells
 -- them. Assumes nothing.
-use Rattle.std.specs.Prelude.{◌≡◌, refl, List, [], ◌∷◌, ◌++◌, map, Bool, true, false, ◌||◌, not, ℕ, zero, suc, ◌+◌, ◌-◌, ◌*◌, ◌/◌, ◌<◌, ◌≤◌, length, get_or, take, drop}
+use Rattle.std.specs.Prelude.{◌≡◌, refl, Result, Ok, Err, List, [], ◌∷◌, ◌++◌, map, Bool, true, false, ◌||◌, not, ℕ, zero, suc, ◌+◌, ◌-◌, ◌*◌, ◌/◌, ◌<◌, ◌≤◌, length, get_or, take, drop}
 use Rattle.std.proofs.Common.{ap, ap₂, sym, ◌∙◌, subst, append_assoc, arith, length-append, ext_get_or, length-take-le, get_or-take, take-add}
 use Rattle.std.proofs.lemmas.List.{map-append}
 use Rattle.std.proofs.Math.Option.{some}
@@ -14,8 +14,9 @@ use Rattle.read_scopes.specs.Scopes.{Bound}
 use Rattle.read_lookups.specs.Places.{ids, ids_none, ids_more, length_ids}
 use Rattle.read_emits.specs.Out.{Wrote, wrote_none, wrote_then, wrote_same, wrote_to}
 use Rattle.read_varwords.specs.Names.{once_append, flat_append, any_append, vars_append, size_once, once_none}
-use Rattle.read_varwords.specs.declared.Vars as enum
-use Rattle.read_varwords.specs.declared.Vars.TheVariants.{Done, Many, Full}
+use Rattle.read_varwords.specs.declared.Vars.{Vars}
+use Rattle.read_varwords.specs.declared.Unwritten.{Unwritten}
+use Rattle.read_varwords.specs.declared.Unwritten.TheVariants.{Many, Full}
 
 -- w spells the names of the table B apart, and the names E are what B says is bound
 pub record Spells (w : ℕ → Name) (B E : List ℕ) : Type 0 where
@@ -84,10 +85,10 @@ pub record VarsFull (is : List ℕ) (O : List Word) (k : ℕ) (Q : List ℕ) (O'
   pub long_q : length Q' ≡ length Q
 
 -- What writing the words of the variables `is` promises of its answer.
-abbrev pub VarsTo : List ℕ → List Word → ℕ → List ℕ → List ℕ → ℕ → Bool → List Word → List ℕ → enum.Vars → Type 0
-VarsTo is O k B Q q query O' Q' (Done k' q' free) = VarsDone is O k B Q q query O' Q' k' q' free
-VarsTo is O k B Q q query O' Q' Many = VarsMany is O B Q q query O' Q'
-VarsTo is O k B Q q query O' Q' Full = VarsFull is O k Q O' Q'
+abbrev pub VarsTo : List ℕ → List Word → ℕ → List ℕ → List ℕ → ℕ → Bool → List Word → List ℕ → Result Vars Unwritten → Type 0
+VarsTo is O k B Q q query O' Q' (Ok v) = VarsDone is O k B Q q query O' Q' v.out v.known v.free
+VarsTo is O k B Q q query O' Q' (Err Many) = VarsMany is O B Q q query O' Q'
+VarsTo is O k B Q q query O' Q' (Err Full) = VarsFull is O k Q O' Q'
 
 -- ---------------------------------------------------------------------------------------------
 -- No variables.
@@ -245,6 +246,10 @@ module _ (L : List ℕ) (first j : ℕ) {O : List Word} {k : ℕ} {B Q : List �
   pub vars_full_at : {O₂ : List Word} {Q₂ : List ℕ} (count : ℕ) → j < count → VarsFull (id ∷ []) O₁ k₁ Q₁ O₂ Q₂ → VarsFull (ids L count first) O k Q O₂ Q₂
   vars_full_at {O₂} {Q₂} count h m = subst (λ (l : List ℕ). VarsFull l O k Q O₂ Q₂) (ids_around L first j count id h e) (full_before (ids L (count - (j + 1)) (first + 2 * (j + 1))) (vars_full a m))
 
+  pub vars_err_at : (O₂ : List Word) (Q₂ : List ℕ) (count : ℕ) → j < count → (x : Unwritten) → VarsTo (id ∷ []) O₁ k₁ B Q₁ q₁ query O₂ Q₂ (Err x) → VarsTo (ids L count first) O k B Q q query O₂ Q₂ (Err x)
+  vars_err_at O₂ Q₂ count h Many m = vars_many_at count h m
+  vars_err_at O₂ Q₂ count h Full m = vars_full_at count h m
+
 pub vars_all : (L : List ℕ) (first j count : ℕ) {O : List Word} {k : ℕ} {B Q : List ℕ} {q : ℕ} {query : Bool} {O' : List Word} {Q' : List ℕ} {k' q' : ℕ} {free : Bool} → VarsDone (ids L j first) O k B Q q query O' Q' k' q' free → j ≡ count → VarsDone (ids L count first) O k B Q q query O' Q' k' q' free
 vars_all L first j count {O} {k} {B} {Q} {q} {query} {O'} {Q'} {k'} {q'} {free} a e = subst (λ (n : ℕ). VarsDone (ids L n first) O k B Q q query O' Q' k' q' free) e a
 
@@ -254,11 +259,3 @@ vars_at L first count a = omega (arith, a.at, length_ids L count first)
 
 pub vars_short : (L : List ℕ) (first count : ℕ) {O : List Word} {k : ℕ} {Q : List ℕ} {O' : List Word} {Q' : List ℕ} → VarsFull (ids L count first) O k Q O' Q' → length O < k + count
 vars_short L first count a = omega (arith, a.full, length_ids L count first)
-
-pub or_yes : (a b : Bool) → b ≡ true → a || b ≡ true
-or_yes true b e = refl
-or_yes false b e = e
-
-pub or_no : (a b : Bool) → b ≡ false → a || b ≡ a
-or_no true b e = refl
-or_no false b e = e

@@ -8,17 +8,19 @@ ghost use Rattle.mem_words.specs.declared.Word.TheVariants.{Free};
 ghost use Rattle.read_varwords.specs.Vars.{CanVar, VarsTo};
 
 use mem_words::Word;
-use read_lookups::{Found, Variable};
+use read_lookups::Variable;
 
-// The words of variables are written: the position behind them, how many names are known, and whether a name is not bound. Or
-// a query has too many variables, or there was no room.
-#[derive(Clone, Copy)]
-pub enum Vars {
-    Done {
-        out: usize,
-        known: usize,
-        free: bool,
-    },
+// The words of variables are written: the position behind them, how many names are known, and whether a name is not bound.
+#[derive(Clone, Copy, Debug, PartialEq, Eq)]
+pub struct Vars {
+    pub out: usize,
+    pub known: usize,
+    pub free: bool,
+}
+
+// Why they are not written: a query has too many variables, or there was no room.
+#[derive(Clone, Copy, Debug, PartialEq, Eq)]
+pub enum Unwritten {
     Many,
     Full,
 }
@@ -40,57 +42,57 @@ pub fn variable(
     order: &mut [u8],
     q: usize,
     query: bool,
-) -> Vars
+) -> Result<Vars, Unwritten>
     requires { CanVar id (shorts binds.now) (shorts order.old) q }
     ensures { VarsTo (id ∷ []) (words out.old) k (shorts binds.now) (shorts order.old) q query (words out.new) (shorts order.new) result }
 {
-    let l = mem_numbers::short_get(binds, id);
+    let l = mem_numbers::get::<2>(binds, id);
     if 0 < l {
         if !read_emits::emit(out, k, Word::Level(l - 1)) {
-            return Vars::Full;
+            return Err(Unwritten::Full);
         }
-        return Vars::Done {
+        return Ok(Vars {
             out: k + 1,
             known: q,
             free: false,
-        };
+        });
     }
     if !query {
         if !read_emits::emit(out, k, Word::Free(0)) {
-            return Vars::Full;
+            return Err(Unwritten::Full);
         }
-        return Vars::Done {
+        return Ok(Vars {
             out: k + 1,
             known: q,
             free: true,
-        };
+        });
     }
     let next = Variable(q); // the number of a new name
     let f = read_lookups::number_of(order, q, id);
     match f {
-        Found::At(v) => {
+        Some(v) => {
             if !read_emits::emit(out, k, free(v)) {
-                return Vars::Full;
+                return Err(Unwritten::Full);
             }
-            Vars::Done {
+            Ok(Vars {
                 out: k + 1,
                 known: q,
                 free: false,
-            }
+            })
         }
-        Found::Absent => {
+        None => {
             if 16 <= q {
-                return Vars::Many;
+                return Err(Unwritten::Many);
             }
-            mem_numbers::short_put(order, q, id);
+            mem_numbers::put::<2>(order, q, id);
             if !read_emits::emit(out, k, free(next)) {
-                return Vars::Full;
+                return Err(Unwritten::Full);
             }
-            Vars::Done {
+            Ok(Vars {
                 out: k + 1,
                 known: q + 1,
                 free: false,
-            }
+            })
         }
     }
 }

@@ -24,6 +24,7 @@ use Rattle.answer_emit.proofs.Ways.{put_wet}
 use Rattle.call_state.specs.Called.{StateTo}
 use Rattle.mem_parts.specs.Parts.{cut}
 use borrow.Rule.Slice.PartMut.{put_mid}
+use Rattle.std.specs.Prelude.{Some, None}
 use Rattle.record_lines.specs.Lines.{PieceIs, answer_piece, state_piece, state_of_text, TextIn}
 use Rattle.record_lines.proofs.Parts.{cut_long, part_put, part_same}
 use Rattle.record_lines.proofs.Asked.{Answered, no_line, long_line, text_line, answered, Stated, stated}
@@ -105,33 +106,33 @@ module _ (b u : List ℕ) (n lo hi : ℕ) (low : lo ≡ 7) (high : hi ≡ 4103) 
   untouched e = T.back ∙ part_same lo hi A ordered room T.part e
 
   -- no answer of that number, or no state
-  pub answer_none : x < 256 → (x ≡ 17 → ⊥) → PieceIs piece O X 0
+  pub answer_none : x < 256 → (x ≡ 17 → ⊥) → PieceIs piece O X None
   answer_none h z = go said
     where
-      go : Answered piece (cut lo hi A) T.part x → PieceIs piece O X 0
-      go (no_line e i) = subst (λ (o : Option (List ℕ)). PieceIs o O X 0) (sym e) refl
+      go : Answered piece (cut lo hi A) T.part x → PieceIs piece O X None
+      go (no_line e i) = subst (λ (o : Option (List ℕ)). PieceIs o O X None) (sym e) refl
       go (long_line e i q) = absurd (z i)
       go (text_line t e k i q) = absurd (omega (arith, h, i))
 
   -- 17
-  pub answer_long : x ≡ 17 → (B C : List ℕ) (q r : ℕ) → Put (108 ∷ 111 ∷ 110 ∷ 103 ∷ []) true X 7 B q → Put (10 ∷ []) true B q C r → PieceIs piece O C r
+  pub answer_long : x ≡ 17 → (B C : List ℕ) (q r : ℕ) → Put (108 ∷ 111 ∷ 110 ∷ 103 ∷ []) true X 7 B q → Put (10 ∷ []) true B q C r → PieceIs piece O C (Some r)
   answer_long h B C q r L N = go said
     where
-      go : Answered piece (cut lo hi A) T.part x → PieceIs piece O C r
+      go : Answered piece (cut lo hi A) T.part x → PieceIs piece O C (Some r)
       go (no_line e i) = absurd (omega (arith, h, i))
-      go (long_line e i k) = subst (λ (o : Option (List ℕ)). PieceIs o O C r) (sym e) (put_then (put_then front (subst (λ (Y : List ℕ). Put (bytes "long") true Y 7 B q) (untouched k) (long_bytes L))) (end_bytes N))
+      go (long_line e i k) = subst (λ (o : Option (List ℕ)). PieceIs o O C (Some r)) (sym e) (put_then (put_then front (subst (λ (Y : List ℕ). Put (bytes "long") true Y 7 B q) (untouched k) (long_bytes L))) (end_bytes N))
       go (text_line t e k i y) = absurd (omega (arith, h, i))
 
   -- the text
-  pub answer_there : 256 ≤ x → (C : List ℕ) (r : ℕ) → Put (10 ∷ []) true X (x - 249) C r → PieceIs piece O C r
+  pub answer_there : 256 ≤ x → (C : List ℕ) (r : ℕ) → Put (10 ∷ []) true X (x - 249) C r → PieceIs piece O C (Some r)
   answer_there h C r N = go said
     where
-      go : Answered piece (cut lo hi A) T.part x → PieceIs piece O C r
+      go : Answered piece (cut lo hi A) T.part x → PieceIs piece O C (Some r)
       go (no_line e i) = absurd (omega (arith, h, i))
       go (long_line e i k) = absurd (omega (arith, h, i))
       go (text_line t e k i y) =
           let z : x - 249 ≡ 7 + length t = omega (arith, i) in
-          subst (λ (o : Option (List ℕ)). PieceIs o O C r) (sym e) (put_then (put_then front (texted t k y)) (end_bytes (subst (λ (j : ℕ). Put (10 ∷ []) true X j C r) z N)))
+          subst (λ (o : Option (List ℕ)). PieceIs o O C (Some r)) (sym e) (put_then (put_then front (texted t k y)) (end_bytes (subst (λ (j : ℕ). Put (10 ∷ []) true X j C r) z N)))
 
   -- where the line's end is put
   pub end_within : 256 ≤ x → x - 249 ≤ length X + 1
@@ -180,7 +181,7 @@ module _ (b : List ℕ) (w x : ℕ) (S : StateTo b w x) where
   abbrev last_piece : Option (List ℕ)
   last_piece = state_piece (slices_short most_parts working_bytes b w) (held most_parts b)
 
-  pub state_put : (v : akl.State) (O X : List ℕ) (r : ℕ) → x ≡ 256 * state_number v → Put ((bytes "state " ++ name_bytes v) ++ bytes "\n") true O 0 X r → PieceIs last_piece O X r
+  pub state_put : (v : akl.State) (O X : List ℕ) (r : ℕ) → x ≡ 256 * state_number v → Put ((bytes "state " ++ name_bytes v) ++ bytes "\n") true O 0 X r → PieceIs last_piece O X (Some r)
   state_put v O X r e P = go (slices_short most_parts working_bytes b w) (held most_parts b) (stated b w x S)
     where
       right : Put (state_of_text v) true O 0 X r
@@ -196,15 +197,15 @@ module _ (b : List ℕ) (w x : ℕ) (S : StateTo b w x) where
       nine final i = omega (arith, i)
       nine open_state i = omega (arith, i)
 
-      go : (c : Bool) (h : Option State) → Stated c h x → PieceIs (state_piece c h) O X r
+      go : (c : Bool) (h : Option State) → Stated c h x → PieceIs (state_piece c h) O X (Some r)
       go true h g = absurd (eight v (sym e ∙ g.given))
       go false none g = absurd (nine v (sym e ∙ g.given))
       go false (some s) g = subst (λ (u : akl.State). Put (state_of_text u) true O 0 X r) (number_once v (akl.state s.config.root) (sym e ∙ g.given)) right
 
-  pub state_none : (x ≡ 0 → ⊥) → (x ≡ 256 → ⊥) → (x ≡ 512 → ⊥) → (O X : List ℕ) → PieceIs last_piece O X 0
+  pub state_none : (x ≡ 0 → ⊥) → (x ≡ 256 → ⊥) → (x ≡ 512 → ⊥) → (O X : List ℕ) → PieceIs last_piece O X None
   state_none k l m O X = go (slices_short most_parts working_bytes b w) (held most_parts b) (stated b w x S)
     where
-      go : (c : Bool) (h : Option State) → Stated c h x → PieceIs (state_piece c h) O X 0
+      go : (c : Bool) (h : Option State) → Stated c h x → PieceIs (state_piece c h) O X None
       go true h g = refl
       go false none g = refl
       go false (some s) g = absurd (small_number (akl.state s.config.root) x g.given k l m)

@@ -1,6 +1,8 @@
--- The lines of the record for a store's slice b. O is the lent slice before the call and O' after it, r where the piece ends; u and u' are
+-- The lines of the record for a store's slice b. O is the lent slice before the call and O' after it, r where the piece ends, if there is one; u and u' are
 -- the working slice. Assumes nothing.
 use Rattle.std.specs.Prelude.{◌≡◌, List, ◌++◌, Bool, true, false, ℕ, ◌-◌, ◌≤◌, ◌<◌, length, replicate}
+use Rattle.std.specs.Prelude as std
+use Rattle.std.specs.Prelude.{Some, None}
 use Rattle.std.proofs.Math.Option.{Option, some, none}
 use borrow.Rule.Slice.PartMut.{put_mid}
 use Rattle.akl.specs.Base.{bytes}
@@ -15,10 +17,11 @@ use Rattle.store_lent.specs.Lent.{working_bytes}
 use Rattle.answer_emit.specs.Put.{Put}
 use Rattle.call_answer.specs.Called.{AnswerTo}
 
--- a piece stands at the beginning of the slice, and behind it all is as it was; where there is none, 0 is handed back
-abbrev pub PieceIs : Option (List ℕ) → List ℕ → List ℕ → ℕ → Type 0
-PieceIs none O O' r = r ≡ 0
-PieceIs (some T) O O' r = Put T true O 0 O' r
+-- a piece stands at the beginning of the slice, and behind it all is as it was; where there is none, nothing is handed back
+abbrev pub PieceIs : Option (List ℕ) → List ℕ → List ℕ → std.Option ℕ → Type 0
+PieceIs none O O' r = r ≡ None
+PieceIs (some T) O O' None = ⊥
+PieceIs (some T) O O' (Some r) = Put T true O 0 O' r
 
 abbrev pub line_of : State → Option Answer → Option (List ℕ)
 line_of s none = none
@@ -39,13 +42,13 @@ state_piece true h = none
 state_piece false none = none
 state_piece false (some s) = some (state_of_text (akl.state s.config.root))
 
-pub record AnswerPut (b u : List ℕ) (n : ℕ) (O u' O' : List ℕ) (r : ℕ) : Type 0 where
+pub record AnswerPut (b u : List ℕ) (n : ℕ) (O u' O' : List ℕ) (r : std.Option ℕ) : Type 0 where
   -- "It lends 4,096 bytes per answer": with `answer ` and the line's end there is room for 4,104
   pub piece : 4104 ≤ length O → PieceIs (answer_piece (slices_short most_parts working_bytes b (length u)) (held most_parts b) n) O O' r
-  pub brief : length O < 4104 → r ≡ 0
+  pub brief : length O < 4104 → r ≡ None
   pub working : 4104 ≤ length O → u' ≡ replicate (length u) 0
 
-pub record StatePut (b u O u' O' : List ℕ) (r : ℕ) : Type 0 where
+pub record StatePut (b u O u' O' : List ℕ) (r : std.Option ℕ) : Type 0 where
   pub piece : PieceIs (state_piece (slices_short most_parts working_bytes b (length u)) (held most_parts b)) O O' r
   pub working : u' ≡ replicate (length u) 0
 

@@ -13,12 +13,9 @@ fn text(piece: &[u8], out: &mut [u8], at: usize) -> usize
     requires { at ≤ length out.old + 1 }
     ensures { Put piece.now true out.old at out.new result }
 {
-    let mut i: usize = 0;
     let mut end = at;
-    while i < piece.len() {
-        let b = piece[i];
-        end = answer_emit::byte(out, end, b, true);
-        i += 1;
+    for i in 0..piece.len() {
+        end = answer_emit::byte(out, end, piece[i], true);
     }
     end
 }
@@ -50,24 +47,24 @@ fn text_in(
     call_answer::akl_answer(store, work, number, &mut out[lo..hi])
 }
 
-// The line of the answer of the number `number`: "It lends 4,096 bytes per answer and prints `answer long` on 17." 0 where there is no
+// The line of the answer of the number `number`: "It lends 4,096 bytes per answer and prints `answer long` on 17." None where there is no
 // such answer, or `out` has not 4,104 bytes.
-pub fn answer(store: &[u8], work: &mut [u8], number: usize, out: &mut [u8]) -> usize
+pub fn answer(store: &[u8], work: &mut [u8], number: usize, out: &mut [u8]) -> Option<usize>
     ensures { AnswerPut store.now work.old number out.old work.new out.new result }
 {
     if out.len() < 4104 {
-        return 0;
+        return None;
     }
     text(b"answer ", out, 0);
     let x = text_in(store, work, number, out, 7, 4103);
     if x == 17 {
         let a = text(b"long", out, 7);
-        return text(b"\n", out, a);
+        return Some(text(b"\n", out, a));
     }
     if x < 256 {
-        return 0;
+        return None;
     }
-    text(b"\n", out, x - 249)
+    Some(text(b"\n", out, x - 249))
 }
 
 // The last line, of a state's name.
@@ -79,19 +76,19 @@ fn state_line(name: &[u8], out: &mut [u8]) -> usize
     text(b"\n", out, b)
 }
 
-// The last line. 0 where the store holds nothing, or a slice is too short.
-pub fn state(store: &[u8], work: &mut [u8], out: &mut [u8]) -> usize
+// The last line. None where the store holds nothing, or a slice is too short.
+pub fn state(store: &[u8], work: &mut [u8], out: &mut [u8]) -> Option<usize>
     ensures { StatePut store.now work.old out.old work.new out.new result }
 {
     let x = call_state::akl_state(store, work);
     if x == 0 {
-        return state_line(b"failed", out);
+        return Some(state_line(b"failed", out));
     }
     if x == 256 {
-        return state_line(b"final", out);
+        return Some(state_line(b"final", out));
     }
     if x == 512 {
-        return state_line(b"open", out);
+        return Some(state_line(b"open", out));
     }
-    0
+    None
 }

@@ -12,9 +12,8 @@ use Rattle.akl.specs.Reader.{Query, read_program, read_query}
 use Rattle.akl.specs.StepsText as akl
 use Rattle.akl.specs.Record.{start, checked_run}
 use Rattle.refusals.specs.declared.Refusal.{Refusal}
-use Rattle.refusals.specs.declared.Refusal.TheVariants.{TooLong, NotOfGrammar, TooMany, Twice, NotDefined, NotBound, TwoOperators, TooShort, NotWellFormed, NoRule, NoPlace, OtherKind, ConditionFalse, NoFreshNumber, TooManyParts, NoAnswer, AnswerTooLong, NotALine}
 use Rattle.refusals.specs.Refusals.{number_of}
-use Rattle.read_steps.specs.declared.Checked.TheVariants as text
+use Rattle.std.specs.Prelude as std
 use Rattle.read_steps.specs.Lines as lines
 use Rattle.store_calls.specs.Outcomes.{slices_short}
 use Rattle.store_lent.specs.Lent.{working_bytes}
@@ -22,32 +21,12 @@ use Rattle.start_outcome.specs.Outcome.{slices_refusal, StartTo, StoreAfter, Sta
 use Rattle.call_run.specs.Called.{RunTo}
 use Rattle.call_run.proofs.Text.{not_both}
 use Rattle.record_verdict.specs.Judged as judged
-use Rattle.record_verdict.specs.Judged.{RanTo, StepsAre, StepsJudged}
+use Rattle.record_verdict.specs.Judged.{RanTo}
 use Rattle.record_verdict.proofs.Stages.{Stage, in_program, in_query, in_start, stage, refused_program, refused_query, refused_steps, refused_start, eight_short, more_start, none_short, none_lower}
 use Rattle.record_verdict.proofs.Led.{led}
 
 -- ---------------------------------------------------------------------------------------------
 -- The steps text by itself.
-
-positive : (f : Refusal) → (m : ℕ) × (number_of f ≡ suc m)
-positive TooLong = (0, refl)
-positive NotOfGrammar = (1, refl)
-positive TooMany = (2, refl)
-positive Twice = (3, refl)
-positive NotDefined = (4, refl)
-positive NotBound = (5, refl)
-positive TwoOperators = (6, refl)
-positive TooShort = (7, refl)
-positive NotWellFormed = (8, refl)
-positive NoRule = (9, refl)
-positive NoPlace = (10, refl)
-positive OtherKind = (11, refl)
-positive ConditionFalse = (12, refl)
-positive NoFreshNumber = (13, refl)
-positive TooManyParts = (14, refl)
-positive NoAnswer = (15, refl)
-positive AnswerTooLong = (16, refl)
-positive NotALine = (17, refl)
 
 text_refused : (r : Result (List akl.Step)) (n : ℕ) → refused n ≡ lines.counted r → r ≡ refused n
 text_refused (refused m) n e = ap (λ (q : Result ℕ). elim q as (λ v. Result (List akl.Step)) [ refused i ↦ refused i | ok a ↦ refused a ]) (sym e)
@@ -57,20 +36,11 @@ text_read : (r : Result (List akl.Step)) (n : ℕ) → ok n ≡ lines.counted r 
 text_read (refused m) n e = absurd (not_both m n (sym e))
 text_read (ok ks) n e = (ks, refl)
 
-pub steps_refused : (k : List ℕ) (f : Refusal) (n : ℕ) → n ≡ number_of f → lines.checked (text.Refused f) ≡ lines.counted (akl.read_steps k) → StepsJudged k n
-steps_refused k f n q e =
-    let p = positive f in
-    subst (StepsJudged k) (sym (q ∙ p.1)) (record { is = text_refused (akl.read_steps k) (number_of f) e ∙ ap (λ (m : ℕ). refused m) p.1 })
+steps_refused : (k : List ℕ) (f : Refusal) → lines.checked (std.Err f) ≡ lines.counted (akl.read_steps k) → akl.read_steps k ≡ refused (number_of f)
+steps_refused k f e = text_refused (akl.read_steps k) (number_of f) e
 
-pub steps_read : (k : List ℕ) (n : ℕ) → lines.checked (text.Steps n) ≡ lines.counted (akl.read_steps k) → StepsJudged k 0
-steps_read k n e = record { is = text_read (akl.read_steps k) n e }
-
-some_refused : (k : List ℕ) (n : ℕ) → (n ≡ 0 → ⊥) → StepsJudged k n → akl.read_steps k ≡ refused n
-some_refused k zero z j = absurd (z refl)
-some_refused k (suc n) z j = j.is
-
-some_read : (k : List ℕ) (n : ℕ) → n ≡ 0 → StepsJudged k n → (ks : List akl.Step) × (akl.read_steps k ≡ ok ks)
-some_read k n e j = (subst (StepsJudged k) e j).is
+steps_read : (k : List ℕ) (m : ℕ) → lines.checked (std.Ok m) ≡ lines.counted (akl.read_steps k) → (ks : List akl.Step) × (akl.read_steps k ≡ ok ks)
+steps_read k m e = text_read (akl.read_steps k) m e
 
 -- ---------------------------------------------------------------------------------------------
 -- x is what the start answers, b₁ the store's slice after it.
@@ -108,14 +78,14 @@ module _ (t q k b b₁ : List ℕ) (w x : ℕ) (T : StartTo t q b w b₁ x) wher
       go (in_start P g p e i) = record { program = P; goal = g; reads_program = p; reads_query = e; answers = i }
 
   -- 1 and 18 of the steps text
-  pub text_first : (1 ≤ x → x ≤ 7 → ⊥) → (n : ℕ) → (n ≡ 0 → ⊥) → StepsJudged k n → checked_run most_parts t q k ≡ refused n
-  text_first z n p j = let B = both z in refused_steps t q k B.program B.reads_program B.goal B.reads_query n (some_refused k n p j)
+  pub text_first : (1 ≤ x → x ≤ 7 → ⊥) → (f : Refusal) → lines.checked (std.Err f) ≡ lines.counted (akl.read_steps k) → checked_run most_parts t q k ≡ refused (number_of f)
+  text_first z f e = let B = both z in refused_steps t q k B.program B.reads_program B.goal B.reads_query (number_of f) (steps_refused k f e)
 
   -- 8
-  pub too_short : x ≡ 8 → (n : ℕ) → n ≡ 0 → StepsJudged k n → judged.TooShort t q k b w
-  too_short e n p j =
+  pub too_short : x ≡ 8 → (m : ℕ) → lines.checked (std.Ok m) ≡ lines.counted (akl.read_steps k) → judged.TooShort t q k b w
+  too_short e m r =
       let B = both (λ l h. omega (arith, e)) in
-      let K = some_read k n p j in
+      let K = steps_read k m r in
       record {
         short = eight_short B.goal short x e B.answers;
         program = B.program;
@@ -127,17 +97,17 @@ module _ (t q k b b₁ : List ℕ) (w x : ℕ) (T : StartTo t q b w b₁ x) wher
       }
 
   -- 15
-  pub start_refused : 8 < x → (n : ℕ) → n ≡ 0 → StepsJudged k n → checked_run most_parts t q k ≡ refused x
-  start_refused l n p j =
+  pub start_refused : 8 < x → (m : ℕ) → lines.checked (std.Ok m) ≡ lines.counted (akl.read_steps k) → checked_run most_parts t q k ≡ refused x
+  start_refused l m r =
       let B = both (λ a h. omega arith) in
-      let K = some_read k n p j in
+      let K = steps_read k m r in
       refused_start t q k B.program B.reads_program B.goal B.reads_query K.0 K.1 x (more_start B.goal short x l B.answers)
 
   -- the start is accepted, and then the steps are tried; y is what they answer
-  pub steps_tried : x ≡ 0 → (n : ℕ) → n ≡ 0 → StepsJudged k n → (b₂ : List ℕ) (v y : ℕ) → v ≡ w → RunTo k b₁ v b₂ y → RanTo t q k b₂ (y / 256) (y % 256)
-  steps_tried e n p j b₂ v y same R =
+  pub steps_tried : x ≡ 0 → (m : ℕ) → lines.checked (std.Ok m) ≡ lines.counted (akl.read_steps k) → (b₂ : List ℕ) (v y : ℕ) → v ≡ w → RunTo k b₁ v b₂ y → RanTo t q k b₂ (y / 256) (y % 256)
+  steps_tried e m r b₂ v y same R =
       let B = both (λ l h. omega (arith, e)) in
-      let K = some_read k n p j in
+      let K = steps_read k m r in
       led t q k b b₁ b₂ w y
       (subst (StoreAfter most_parts t q b b₁) e T.store)
       (none_short B.goal short (sym e ∙ B.answers))

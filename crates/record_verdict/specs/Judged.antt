@@ -2,7 +2,7 @@
 --
 -- t, q and k are the texts of the rules, the query and the steps; b is the store's slice before the call and b' after it, u and u' are
 -- the working slice.
-use Rattle.std.specs.Prelude.{◌≡◌, List, true, ℕ, zero, suc, length, replicate}
+use Rattle.std.specs.Prelude.{◌≡◌, List, true, ℕ, length, replicate, Result, Ok, Err}
 use Rattle.std.proofs.Math.Option.{some}
 use Rattle.akl.specs.Base.{refused, ok}
 use Rattle.akl.specs.Limits.{most_parts}
@@ -13,8 +13,9 @@ use Rattle.akl.specs.Record.{Checked, checked_run}
 use Rattle.store_form.specs.State.{State, names_of, config_of}
 use Rattle.store_calls.specs.Outcomes.{slices_short, held}
 use Rattle.store_lent.specs.Lent.{working_bytes}
-use Rattle.record_verdict.specs.declared.Verdict.{Verdict}
-use Rattle.record_verdict.specs.declared.Verdict.TheVariants.{Refused, Ran, Short}
+use Rattle.record_verdict.specs.declared.Ran.{Ran}
+use Rattle.record_verdict.specs.declared.Untried.{Untried}
+use Rattle.record_verdict.specs.declared.Untried.TheVariants.{Refused, Short}
 
 -- The steps were tried: a are accepted, n is the refusal of the next one or 0, and the store holds the configuration that they lead to,
 -- with the names of the query's variables.
@@ -38,20 +39,12 @@ pub record TooShort (t q k b : List ℕ) (w : ℕ) : Type 0 where
   pub reads_query : read_query program q ≡ ok query
   pub reads_steps : read_steps k ≡ ok steps
 
-abbrev pub VerdictIs : List ℕ → List ℕ → List ℕ → List ℕ → ℕ → List ℕ → Verdict → Type 0
-VerdictIs t q k b w b' (Refused n) = checked_run most_parts t q k ≡ refused n
-VerdictIs t q k b w b' (Ran a n) = RanTo t q k b' a n
-VerdictIs t q k b w b' Short = TooShort t q k b w
+abbrev pub VerdictIs : List ℕ → List ℕ → List ℕ → List ℕ → ℕ → List ℕ → Result Ran Untried → Type 0
+VerdictIs t q k b w b' (Err (Refused n)) = checked_run most_parts t q k ≡ refused n
+VerdictIs t q k b w b' (Ok r) = RanTo t q k b' r.accepted r.refusal
+VerdictIs t q k b w b' (Err Short) = TooShort t q k b w
 
-pub record Judged (t q k b u b' u' : List ℕ) (v : Verdict) : Type 0 where
+pub record Judged (t q k b u b' u' : List ℕ) (v : Result Ran Untried) : Type 0 where
   pub verdict : VerdictIs t q k b (length u) b' v
   -- "the working slice is zero after every call"
   pub working : u' ≡ replicate (length u) 0
-
--- 1 or 18 of a steps text, or 0 where it is read
-abbrev pub StepsAre : List ℕ → ℕ → Type 0
-StepsAre k zero = (ks : List Step) × (read_steps k ≡ ok ks)
-StepsAre k (suc n) = read_steps k ≡ refused (suc n)
-
-pub record StepsJudged (k : List ℕ) (r : ℕ) : Type 0 where
-  pub is : StepsAre k r

@@ -1,5 +1,5 @@
 -- Document 01, "What a call returns": the number of each refusal, with the words of its row.
-use Rattle.std.specs.Prelude.{ℕ, ◌≤◌, ◌<◌}
+use Rattle.std.specs.Prelude.{ℕ, ◌≤◌, ◌<◌, Result, Ok, Err}
 use Rattle.refusals.specs.declared.Refusal.{Refusal}
 use Rattle.refusals.specs.declared.Refusal.TheVariants.{TooLong, NotOfGrammar, TooMany, Twice, NotDefined, NotBound, TwoOperators, TooShort, NotWellFormed, NoRule, NoPlace, OtherKind, ConditionFalse, NoFreshNumber, TooManyParts, NoAnswer, AnswerTooLong, NotALine}
 
@@ -45,3 +45,16 @@ number_of NotALine = 18
 pub record Textual (f : ℕ) : Type 0 where
   pub low : 3 ≤ f
   pub high : f < 8
+
+-- the number that a result stands for: what a function makes of its value, or the refusal's
+abbrev pub answered : {A : Type 0} → (A → ℕ) → Result A Refusal → ℕ
+answered f (Ok x) = f x
+answered f (Err r) = number_of r
+
+-- 0, or the refusal's number
+abbrev pub refused_with : {A : Type 0} → Result A Refusal → ℕ
+refused_with r = answered (λ x. 0) r
+
+-- the value itself, or the refusal's number
+abbrev pub number_told : Result ℕ Refusal → ℕ
+number_told r = answered (λ n. n) r

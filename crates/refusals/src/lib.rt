@@ -4,7 +4,7 @@
 ghost use Rattle.std.specs.Prelude.{◌≡◌};
 ghost use Rattle.refusals.specs.Refusals.{number_of, Textual};
 
-#[derive(Clone, Copy)]
+#[derive(Clone, Copy, Debug, PartialEq, Eq)]
 pub enum Refusal {
     TooLong, // 1
     NotOfGrammar, // 2
@@ -26,29 +26,31 @@ pub enum Refusal {
     NotALine, // 18
 }
 
-// Its number in the table.
-pub fn number(r: Refusal) -> u32
-    ensures { result ≡ number_of r }
-{
-    match r {
-        Refusal::TooLong => 1,
-        Refusal::NotOfGrammar => 2,
-        Refusal::TooMany => 3,
-        Refusal::Twice => 4,
-        Refusal::NotDefined => 5,
-        Refusal::NotBound => 6,
-        Refusal::TwoOperators => 7,
-        Refusal::TooShort => 8,
-        Refusal::NotWellFormed => 9,
-        Refusal::NoRule => 10,
-        Refusal::NoPlace => 11,
-        Refusal::OtherKind => 12,
-        Refusal::ConditionFalse => 13,
-        Refusal::NoFreshNumber => 14,
-        Refusal::TooManyParts => 15,
-        Refusal::NoAnswer => 16,
-        Refusal::AnswerTooLong => 17,
-        Refusal::NotALine => 18,
+impl Refusal {
+    // Its number in the table.
+    pub fn number(self) -> u32
+        ensures { result ≡ number_of self }
+    {
+        match self {
+            Refusal::TooLong => 1,
+            Refusal::NotOfGrammar => 2,
+            Refusal::TooMany => 3,
+            Refusal::Twice => 4,
+            Refusal::NotDefined => 5,
+            Refusal::NotBound => 6,
+            Refusal::TwoOperators => 7,
+            Refusal::TooShort => 8,
+            Refusal::NotWellFormed => 9,
+            Refusal::NoRule => 10,
+            Refusal::NoPlace => 11,
+            Refusal::OtherKind => 12,
+            Refusal::ConditionFalse => 13,
+            Refusal::NoFreshNumber => 14,
+            Refusal::TooManyParts => 15,
+            Refusal::NoAnswer => 16,
+            Refusal::AnswerTooLong => 17,
+            Refusal::NotALine => 18,
+        }
     }
 }
 
@@ -56,17 +58,11 @@ pub fn number(r: Refusal) -> u32
 pub fn of_tree(f: usize) -> Refusal
     ensures { Textual f → number_of result ≡ f }
 {
-    if f == 3 {
-        return Refusal::TooMany;
+    match f {
+        3 => Refusal::TooMany,
+        4 => Refusal::Twice,
+        5 => Refusal::NotDefined,
+        6 => Refusal::NotBound,
+        _ => Refusal::TwoOperators,
     }
-    if f == 4 {
-        return Refusal::Twice;
-    }
-    if f == 5 {
-        return Refusal::NotDefined;
-    }
-    if f == 6 {
-        return Refusal::NotBound;
-    }
-    Refusal::TwoOperators
 }

@@ -1,7 +1,8 @@
 -- Ranges that reach past the end of the words, or are none. Assumes nothing.
-use Rattle.std.specs.Prelude.{◌≡◌, refl, ◌⊎◌, List, [], ◌∷◌, ◌++◌, ℕ, ◌+◌, ◌-◌, ◌<◌, ◌≤◌, length, take, drop}
+use Rattle.std.specs.Prelude.{◌≡◌, refl, ◌⊎◌, List, [], ◌∷◌, ◌++◌, ℕ, ◌+◌, ◌-◌, ◌<◌, ◌≤◌, length, take, drop, min}
 use Rattle.std.proofs.Common.{ap, ap₂, sym, ◌∙◌, inl, inr, arith, length-drop, drop_of_length-le, take_all}
 use Rattle.std.proofs.Math.Seq.{take-nil}
+use Rattle.std.proofs.Math.Decide.{dec_lt}
 use Rattle.mem_words.specs.declared.Word.{Word}
 use Rattle.mem_copies.specs.Runs.{run}
 use Rattle.rule_words.specs.Pieces.{cut}
@@ -12,6 +13,13 @@ pub record Least (a b r : ℕ) : Type 0 where
   pub left : r ≤ a
   pub right : r ≤ b
   pub one : (r ≡ a) ⊎ (r ≡ b)
+
+pub least_min : (a b r : ℕ) → r ≡ min a b → Least a b r
+least_min a b r e = go (dec_lt a b)
+  where
+    go : Dec (a < b) → Least a b r
+    go (yes h) = record { left = omega (arith, e); right = omega (arith, e); one = inl (omega (arith, e)) }
+    go (no h) = record { left = omega (arith, e); right = omega (arith, e); one = inr (omega (arith, e)) }
 
 -- the range from s up to e is that from a up to b, as far as there are words
 pub cut_clamp : (a b s e n : ℕ) (W : List Word) → n ≡ length W → Least b n e → Least a e s → run s (e - s) W ≡ cut a b W

@@ -6,13 +6,6 @@ ghost use Rattle.mem_words.specs.Words.{words};
 ghost use Rattle.mem_copies.specs.Runs.{run};
 ghost use Rattle.rule_words.specs.Pieces.{cut};
 ghost use Rattle.rule_build.specs.Built.{Appended};
-ghost use Rattle.rule_build.specs.Cuts.{Least};
-
-fn least(a: usize, b: usize) -> usize
-    ensures { Least a b result }
-{
-    if a < b { a } else { b }
-}
 
 // Appends the `m` words of `ws` from `s` on.
 fn append_run(ws: &[u8], s: usize, m: usize, out: &mut [u8], at: usize) -> usize
@@ -35,7 +28,7 @@ pub fn append_range(ws: &[u8], a: usize, b: usize, out: &mut [u8], at: usize) ->
     ensures { Appended (words out.old) at (cut a b (words ws.now)) result (words out.new) }
 {
     let n = mem_words::count(ws);
-    let e = least(b, n);
-    let s = least(a, e);
+    let e = b.min(n);
+    let s = a.min(e);
     append_run(ws, s, e - s, out, at)
 }

@@ -4,45 +4,17 @@
 ghost use Rattle.std.specs.Prelude.{◌≡◌, ◌+◌, ◌≤◌, length};
 ghost use Rattle.mem_words.specs.Words.{words};
 ghost use Rattle.rule_build.specs.Built.{Appended};
-ghost use Rattle.rule_effects.specs.Effects.{clause_sort, begins_clause, hides};
+ghost use Rattle.rule_effects.specs.Effects.{begins_clause, hides};
 ghost use Rattle.rule_clauses.specs.Going.{goal, left, hidden};
 
 use mem_sorts::Sort;
 use mem_words::Word;
 
-fn is_clause(s: Sort) -> bool
-    ensures { result ≡ clause_sort s }
-{
-    match s {
-        Sort::Locals => false,
-        Sort::Store => false,
-        Sort::True => false,
-        Sort::Fail => false,
-        Sort::Eq => false,
-        Sort::App => false,
-        Sort::Call => false,
-        Sort::Comp => false,
-        Sort::Hide => false,
-        Sort::Clause => true,
-        Sort::AskWait => false,
-        Sort::AskCond => false,
-        Sort::AskCommit => false,
-    }
-}
-
 // Whether a clause begins with a word.
-fn starts_clause(w: Word) -> bool
+pub fn starts_clause(w: Word) -> bool
     ensures { result ≡ begins_clause w }
 {
-    match w {
-        Word::End => false,
-        Word::Free(_) => false,
-        Word::Level(_) => false,
-        Word::Num(_) => false,
-        Word::Place(_) => false,
-        Word::Inner(s) => is_clause(s),
-        Word::Bad => false,
-    }
+    matches!(w, Word::Inner(Sort::Clause))
 }
 
 // Appends the clause at `j`, which hides `n` variables.
@@ -50,7 +22,6 @@ fn append_one(ws: &[u8], j: usize, next: usize, n: usize, out: &mut [u8], at: us
     requires { (j ≤ length (words ws.now)) × (n ≡ hides (words ws.now) j) × (next + n ≤ 65536) }
     ensures { Appended (words out.old) at (goal (words ws.now) j next) result (words out.new) }
 {
-    let c = mem_words::count(ws);
     let g = rule_close::end_of(ws, j + 2);
     let b = rule_close::end_of(ws, g + 1);
     rule_clause::append_clause(ws, j, g + 1, b + 1, next, n, out, at)

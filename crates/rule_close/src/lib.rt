@@ -7,32 +7,11 @@ ghost use Rattle.rule_words.specs.Scans.{closes, deeper, close};
 
 use mem_words::Word;
 
-// Whether a word is an `End`.
-fn is_end(w: Word) -> bool
-    ensures { result ≡ closes w 0 }
-{
-    match w {
-        Word::End => true,
-        Word::Free(_) => false,
-        Word::Level(_) => false,
-        Word::Num(_) => false,
-        Word::Place(_) => false,
-        Word::Inner(_) => false,
-        Word::Bad => false,
-    }
-}
-
 // Whether a word closes the bracket, where `d` more are open inside it.
 fn is_closing(w: Word, d: usize) -> bool
     ensures { result ≡ closes w d }
 {
-    if d == 0 { is_end(w) } else { false }
-}
-
-fn less(d: usize) -> usize
-    ensures { result ≡ d - 1 }
-{
-    if d == 0 { 0 } else { d - 1 }
+    d == 0 && matches!(w, Word::End)
 }
 
 // How many are open inside it behind a word.
@@ -41,13 +20,9 @@ fn depth_after(w: Word, d: usize) -> usize
     ensures { result ≡ deeper w d }
 {
     match w {
-        Word::End => less(d),
-        Word::Free(_) => d,
-        Word::Level(_) => d,
-        Word::Num(_) => d,
-        Word::Place(_) => d + 1,
-        Word::Inner(_) => d + 1,
-        Word::Bad => d,
+        Word::End => d.saturating_sub(1),
+        Word::Place(_) | Word::Inner(_) => d + 1,
+        _ => d,
     }
 }
 
@@ -59,15 +34,13 @@ pub fn end_of(ws: &[u8], i: usize) -> usize
     if n <= i {
         return n;
     }
-    let mut j = i + 1;
     let mut d: usize = 0;
-    while j < n {
+    for j in i + 1..n {
         let w = mem_get::get(ws, j);
         if is_closing(w, d) {
             return j;
         }
         d = depth_after(w, d);
-        j += 1;
     }
     n
 }

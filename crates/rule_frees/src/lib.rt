@@ -15,10 +15,8 @@ fn put_frees(next: Variable, n: usize, out: &mut [u8], at: usize)
     requires { (at + n ≤ length (words out.old)) × (next.0 + n ≤ 65536) }
     ensures { Copied (words out.old) at (frees next.0 n) n (words out.new) }
 {
-    let mut j = 0;
-    while j < n {
+    for j in 0..n {
         mem_put::put(out, at + j, Word::Free(next.0 + j));
-        j += 1;
     }
 }
 

@@ -7,7 +7,6 @@ ghost use Rattle.mem_copies.specs.Runs.{Copied};
 ghost use Rattle.mem_copies.specs.Open.{open_word, Opened};
 ghost use Rattle.rule_words.specs.Pieces.{cut};
 ghost use Rattle.rule_build.specs.Built.{Appended};
-ghost use Rattle.rule_build.specs.Cuts.{Least};
 ghost use Rattle.rule_effects.specs.Effects.{frees};
 ghost use Rattle.rule_fresh.specs.Room.{Fits};
 
@@ -20,8 +19,6 @@ fn fresh_word(w: Word, next: Variable, n: usize) -> Word
     ensures { Opened (frees next.0 n) w result }
 {
     match w {
-        Word::End => Word::End,
-        Word::Free(x) => Word::Free(x),
         Word::Level(l) => {
             if l < n {
                 Word::Free(next.0 + l)
@@ -29,10 +26,7 @@ fn fresh_word(w: Word, next: Variable, n: usize) -> Word
                 Word::Level(l - n)
             }
         }
-        Word::Num(x) => Word::Num(x),
-        Word::Place(k) => Word::Place(k),
-        Word::Inner(s) => Word::Inner(s),
-        Word::Bad => Word::Bad,
+        _ => w,
     }
 }
 
@@ -41,19 +35,11 @@ fn copy_fresh(ws: &[u8], s: usize, m: usize, next: Variable, n: usize, out: &mut
     requires { Fits (words ws.now) s m next.0 n (words out.old) at }
     ensures { Copied (words out.old) at (map (open_word (frees next.0 n)) (drop s (words ws.now))) m (words out.new) }
 {
-    let mut j = 0;
-    while j < m {
+    for j in 0..m {
         let w = mem_get::get(ws, s + j);
         let o = fresh_word(w, next, n);
         mem_put::put(out, at + j, o);
-        j += 1;
     }
-}
-
-fn least(a: usize, b: usize) -> usize
-    ensures { Least a b result }
-{
-    if a < b { a } else { b }
 }
 
 // Appends the words of `ws` from `a` up to `b`, opened with `n` variables from `next` on.
@@ -69,8 +55,8 @@ pub fn append_fresh(
     requires { next.0 + n ≤ 65536 }
     ensures { Appended (words out.old) at (map (open_word (frees next.0 n)) (cut a b (words ws.now))) result (words out.new) }
 {
-    let e = least(b, mem_words::count(ws));
-    let s = least(a, e);
+    let e = b.min(mem_words::count(ws));
+    let s = a.min(e);
     let m = e - s;
     let cap = mem_words::count(out);
     if cap < at {

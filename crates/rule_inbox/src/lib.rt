@@ -21,30 +21,14 @@ pub struct Inbox {
 fn is_end(w: Word) -> bool
     ensures { result ≡ closes w 0 }
 {
-    match w {
-        Word::End => true,
-        Word::Free(_) => false,
-        Word::Level(_) => false,
-        Word::Num(_) => false,
-        Word::Place(_) => false,
-        Word::Inner(_) => false,
-        Word::Bad => false,
-    }
+    matches!(w, Word::End)
 }
 
 // Whether a word opens a bracket.
 fn is_bracket(w: Word) -> bool
     ensures { result ≡ opens w 0 }
 {
-    match w {
-        Word::End => false,
-        Word::Free(_) => false,
-        Word::Level(_) => false,
-        Word::Num(_) => false,
-        Word::Place(_) => true,
-        Word::Inner(_) => true,
-        Word::Bad => false,
-    }
+    matches!(w, Word::Place(_) | Word::Inner(_))
 }
 
 // Where the bracket that closes at `c` opens; `c` if none does.
@@ -52,10 +36,8 @@ fn begin_of(ws: &[u8], c: usize) -> usize
     requires { Ends (words ws.now) c }
     ensures { Begun (words ws.now) c result }
 {
-    let mut j = c;
     let mut d: usize = 0;
-    while 0 < j {
-        j -= 1;
+    for j in (0..c).rev() {
         let w = mem_get::get(ws, j);
         if is_bracket(w) {
             if d == 0 {

@@ -13,13 +13,8 @@ fn number_of(w: Word) -> usize
     ensures { result ≡ number_in w }
 {
     match w {
-        Word::End => 0,
-        Word::Free(_) => 0,
-        Word::Level(_) => 0,
         Word::Num(v) => v,
-        Word::Place(_) => 0,
-        Word::Inner(_) => 0,
-        Word::Bad => 0,
+        _ => 0,
     }
 }
 

@@ -16,33 +16,21 @@ use read_steps::Place;
 fn is_place(w: Word) -> bool
     ensures { result ≡ begins w }
 {
-    match w {
-        Word::End => false,
-        Word::Free(_) => false,
-        Word::Level(_) => false,
-        Word::Num(_) => false,
-        Word::Place(_) => true,
-        Word::Inner(_) => false,
-        Word::Bad => false,
-    }
+    matches!(w, Word::Place(_))
 }
 
 // Whether it is the one that `p` more are before.
 fn is_hit(w: Word, p: u64) -> bool
     ensures { result ≡ hits w p }
 {
-    if p == 0 { is_place(w) } else { false }
+    p == 0 && is_place(w)
 }
 
 // How many more are before it behind a word.
 fn passes(w: Word, p: u64) -> u64
     ensures { result ≡ passed w p }
 {
-    if is_place(w) {
-        if p == 0 { 0 } else { p - 1 }
-    } else {
-        p
-    }
+    if is_place(w) { p.saturating_sub(1) } else { p }
 }
 
 // How far a search is, and how many places are still before the one that is looked for.
@@ -82,11 +70,9 @@ fn places(ws: &[u8], i: usize, m: &[u8]) -> u8
 {
     let j = 3 * i;
     let mut s: u8 = 0;
-    let mut k = 0;
-    while k < 48 {
+    for k in 0..48 {
         let x = j + k;
         s += one(m[k], ws[x], ws[x + 1], ws[x + 2]);
-        k += 1;
     }
     s
 }
@@ -114,6 +100,7 @@ fn front(ws: &[u8], at: usize, p: u64) -> Ahead
     let m = mem_tallies::first_bytes();
     let mut i = at;
     let mut left = p;
+    // A `while`: where the pieces end is handed back.
     while 17 <= n - i {
         let s = places(ws, i, &m) as u64;
         if left < s {
@@ -133,15 +120,13 @@ pub fn position_from(ws: &[u8], f: Finger, p: Place) -> usize
     let n = mem_words::count(ws);
     let b = begin(ws, f, p.0);
     let a = front(ws, b.at, b.left);
-    let mut i = a.at;
     let mut left = a.left;
-    while i < n {
+    for i in a.at..n {
         let w = mem_get::get(ws, i);
         if is_hit(w, left) {
             return i;
         }
         left = passes(w, left);
-        i += 1;
     }
     n
 }

@@ -11,8 +11,8 @@ pub fn below(cells: &[u8], a: usize, b: usize) -> bool
     requires { (a < length (triples cells.now)) × (b < length (triples cells.now)) × (length (triples cells.now) < 65537) × (a ≡ b → ⊥) }
     ensures { Order (triples cells.now) a b result }
 {
-    let ra = mem_numbers::triple_get(cells, a) / 4 % 64;
-    let rb = mem_numbers::triple_get(cells, b) / 4 % 64;
+    let ra = mem_numbers::get::<3>(cells, a) / 4 % 64;
+    let rb = mem_numbers::get::<3>(cells, b) / 4 % 64;
     if ra < rb {
         return true;
     }

@@ -1,5 +1,6 @@
 -- The search goes on to the next argument, takes an application off the stack, finds a cycle or ends. Assumes nothing.
 use mathlib.Core.Path.{◌≡◌, refl, ap, sym, ◌∙◌, subst}
+use Rattle.std.specs.Prelude.{Option, None, Some}
 use mathlib.Core.Logic.{◌↔◌, ◌⊎◌, inl, inr, ite, if_pos, if_neg}
 use mathlib.Core.Bool.{Bool, true, false}
 use mathlib.Core.List.{List, [], ◌∷◌, ◌++◌, append-nil, append_assoc}
@@ -278,14 +279,13 @@ pub marked_then : (M₀ M M' : List ℕ) → Marked M₀ M → Marked M M' → M
 unfolding Marked
 marked_then M₀ M M' a b k n = b k (a k n)
 
-pub drained_done : (W : List Word) (P T M : List ℕ) (a : ℕ) (M' K' D' : List ℕ) (q : ℕ) → Search W P T M' K' D' a 0 q → Marked M M' → Draining W P T M a M' K' D' q
-drained_done W P T M a M' K' D' zero s m = absurd (omega (arith, s.two))
-drained_done W P T M a M' K' D' (suc q) s m = record { search = s; kept = m }
+pub drained_done : (W : List Word) (P T M : List ℕ) (a : ℕ) (M' K' D' : List ℕ) (q : ℕ) → Search W P T M' K' D' a 0 q → Marked M M' → Draining W P T M a M' K' D' (Some q)
+drained_done W P T M a M' K' D' q s m = record { search = s; kept = m }
 
-pub explored_drained : (W : List Word) (P T M M₁ : List ℕ) (a k : ℕ) (M' K' D' : List ℕ) (r : ℕ) → Marked M M₁ → (get_or M₁ k 0 ≡ 0 → ⊥) → Draining W P T M₁ a M' K' D' r → Exploring W P T M a k M' K' D' r
+pub explored_drained : (W : List Word) (P T M M₁ : List ℕ) (a k : ℕ) (M' K' D' : List ℕ) (r : Option ℕ) → Marked M M₁ → (get_or M₁ k 0 ≡ 0 → ⊥) → Draining W P T M₁ a M' K' D' r → Exploring W P T M a k M' K' D' r
 unfolding Marked
-explored_drained W P T M M₁ a k M' K' D' zero m n d = d
-explored_drained W P T M M₁ a k M' K' D' (suc q) m n d = record { search = d.search; kept = marked_then M M₁ M' m d.kept; met = d.kept k n }
+explored_drained W P T M M₁ a k M' K' D' None m n d = d
+explored_drained W P T M M₁ a k M' K' D' (Some q) m n d = record { search = d.search; kept = marked_then M M₁ M' m d.kept; met = d.kept k n }
 
 -- an argument that leads to something done is settled, and so is one that leads nowhere
 pub settled_open : (W : List Word) (T M : List ℕ) (c : ℕ) → Ends W T c → Settled T M (var_of (get_or W c Bad))
@@ -308,13 +308,11 @@ stack_room a j M l z W P T K D h q S = omega (arith, S.count, S.two, some a l)
     some : (b : ℕ) → j < b → 0 < whites b M
     some b k = whites_some b j M k z
 
-pub explored_of : (W : List Word) (P T M : List ℕ) (a k : ℕ) (M' K' D' : List ℕ) (r : ℕ) → (r ≡ 0 → ⊥) → Exploring W P T M a k M' K' D' r → Explored W P T M a k M' K' D' r
-explored_of W P T M a k M' K' D' zero n e = absurd (n refl)
-explored_of W P T M a k M' K' D' (suc r) n e = e
+pub explored_of : (W : List Word) (P T M : List ℕ) (a k : ℕ) (M' K' D' : List ℕ) (o : Option ℕ) (q : ℕ) → o ≡ Some q → Exploring W P T M a k M' K' D' o → Explored W P T M a k M' K' D' q
+explored_of W P T M a k M' K' D' o q e x = subst (Exploring W P T M a k M' K' D') e x
 
-pub cyclic_of : (W : List Word) (P T M : List ℕ) (a k : ℕ) (M' K' D' : List ℕ) (r : ℕ) → r ≡ 0 → Exploring W P T M a k M' K' D' r → Cyclic W P T
-cyclic_of W P T M a k M' K' D' zero e x = x
-cyclic_of W P T M a k M' K' D' (suc r) e x = absurd (omega arith)
+pub cyclic_of : (W : List Word) (P T M : List ℕ) (a k : ℕ) (M' K' D' : List ℕ) (o : Option ℕ) → o ≡ None → Exploring W P T M a k M' K' D' o → Cyclic W P T
+cyclic_of W P T M a k M' K' D' o e x = subst (Exploring W P T M a k M' K' D') e x
 
 -- the applications below k + 1 are met when those below k are, and k
 pub met_more : (M M' : List ℕ) (k : ℕ) → Marked M M' → ((i : ℕ) → i < k → get_or M i 0 ≡ 0 → ⊥) → (get_or M' k 0 ≡ 0 → ⊥) → (i : ℕ) → i < k + 1 → get_or M' i 0 ≡ 0 → ⊥
@@ -324,13 +322,6 @@ met_more M M' k m h n i l = go (ℕ_discrete i k)
     go : Dec (i ≡ k) → get_or M' i 0 ≡ 0 → ⊥
     go (yes e) z = n (ap (λ (x : ℕ). get_or M' x 0) (sym e) ∙ z)
     go (no d) z = m i (h i (omega arith)) z
-
-pub clear_more : (M M' : List ℕ) (i : ℕ) → ((k : ℕ) → k < i → get_or M k 0 ≡ 0) → Stored M i 0 M' → i < length M → (k : ℕ) → k < i + 1 → get_or M' k 0 ≡ 0
-clear_more M M' i h s l k b = go (ℕ_discrete k i)
-  where
-    go : Dec (k ≡ i) → get_or M' k 0 ≡ 0
-    go (yes e) = ap (λ (x : ℕ). get_or M' x 0) e ∙ stored_same 0 s l
-    go (no d) = stored_other k 0 s d ∙ h k (omega arith)
 
 -- an application leaves the stack, and the argument that led to it is passed
 module _ (W : List Word) (P T M K D : List ℕ) (a h q : ℕ) (S : Search W P T M K D a h q) (top k i : ℕ) (et : top + 1 ≡ h) (ek : k ≡ get_or K top 0) where

@@ -1,5 +1,6 @@
 -- A cycle that was not there at a mark runs through a class that was touched since: so a search from those finds it. Assumes nothing.
 use mathlib.Core.Path.{◌≡◌, refl, ap, sym, ◌∙◌, subst}
+use Rattle.std.specs.Prelude.{Option, None, Some}
 use mathlib.Core.Logic.{◌⊎◌, inl, inr, ite, if_pos, if_neg}
 use mathlib.Core.List.{List}
 use Prim.Native.Nat.{ℕ, zero, suc, ◌+◌, ◌-◌, ◌/◌, ◌%◌, ◌≤◌, ◌<◌}
@@ -142,34 +143,29 @@ module _ (W : List Word) (P T M K D : List ℕ) (a q x r c : ℕ) (S : Search W 
   cell : cell_of T x ≡ c
   cell = ap (λ (z : ℕ). get_or T z 0) (sym f.is) ∙ sym e
 
-  stays : Reached T M x → Visiting W P T M a x M K D q
-  stays h = go q S S.two
-    where
-      go : (q : ℕ) → Search W P T M K D a 0 q → 2 ≤ q → Visiting W P T M a x M K D q
-      go zero s z = absurd (omega arith)
-      go (suc q) s z = record { search = s; kept = marked_same M; met = h }
+  stays : Reached T M x → Visiting W P T M a x M K D (Some q)
+  stays h = record { search = S; kept = marked_same M; met = h }
 
-  pub visit_open : (c % 4 ≡ 2 → ⊥) → Visiting W P T M a x M K D q
+  pub visit_open : (c % 4 ≡ 2 → ⊥) → Visiting W P T M a x M K D (Some q)
   unfolding Reached
   visit_open n = stays (λ b w. n (ap (λ (z : ℕ). z % 4) (sym cell) ∙ b))
 
-  pub visit_met : (k m : ℕ) → k ≡ c / 256 → m ≡ get_or M k 0 → (m ≡ 0 → ⊥) → Visiting W P T M a x M K D q
+  pub visit_met : (k m : ℕ) → k ≡ c / 256 → m ≡ get_or M k 0 → (m ≡ 0 → ⊥) → Visiting W P T M a x M K D (Some q)
   unfolding Reached
   visit_met k m ek em n = stays (λ b w. n (em ∙ ap (λ (j : ℕ). get_or M j 0) ek ∙ ap (λ (z : ℕ). get_or M (z / 256) 0) (sym cell) ∙ w))
 
-  pub visit_explored : (k : ℕ) → k ≡ c / 256 → (M' K' D' : List ℕ) (o : ℕ) → Exploring W P T M a k M' K' D' o → Visiting W P T M a x M' K' D' o
+  pub visit_explored : (k : ℕ) → k ≡ c / 256 → (M' K' D' : List ℕ) (o : Option ℕ) → Exploring W P T M a k M' K' D' o → Visiting W P T M a x M' K' D' o
   unfolding Reached
-  visit_explored k ek M' K' D' zero g = g
-  visit_explored k ek M' K' D' (suc o) g = record { search = g.search; kept = g.kept; met = λ b w. g.met (ap (λ (j : ℕ). get_or M' j 0) ek ∙ ap (λ (z : ℕ). get_or M' (z / 256) 0) (sym cell) ∙ w) }
+  visit_explored k ek M' K' D' None g = g
+  visit_explored k ek M' K' D' (Some o) g = record { search = g.search; kept = g.kept; met = λ b w. g.met (ap (λ (j : ℕ). get_or M' j 0) ek ∙ ap (λ (z : ℕ). get_or M' (z / 256) 0) (sym cell) ∙ w) }
 
   pub visit_app : Apps T a → c % 4 ≡ 2 → c / 256 < a
   visit_app A b = subst (λ (z : ℕ). z / 256 < a) cell (apps_at_lem T a A (rep T x) (ap (λ (z : ℕ). z % 4) cell ∙ b))
 
-pub visited_of : (W : List Word) (P T M : List ℕ) (a x : ℕ) (M' K' D' : List ℕ) (o : ℕ) → (o ≡ 0 → ⊥) → Visiting W P T M a x M' K' D' o → Visited W P T M a x M' K' D' o
-visited_of W P T M a x M' K' D' zero n v = absurd (n refl)
-visited_of W P T M a x M' K' D' (suc o) n v = v
+pub visited_of : (W : List Word) (P T M : List ℕ) (a x : ℕ) (M' K' D' : List ℕ) (o : Option ℕ) (q : ℕ) → o ≡ Some q → Visiting W P T M a x M' K' D' o → Visited W P T M a x M' K' D' q
+visited_of W P T M a x M' K' D' o q e v = subst (Visiting W P T M a x M' K' D') e v
 
-pub visit_cyclic : (W : List Word) (P T M : List ℕ) (a x : ℕ) (M' K' D' : List ℕ) (o : ℕ) → o ≡ 0 → Visiting W P T M a x M' K' D' o → Cyclic W P T
+pub visit_cyclic : (W : List Word) (P T M : List ℕ) (a x : ℕ) (M' K' D' : List ℕ) (o : Option ℕ) → o ≡ None → Visiting W P T M a x M' K' D' o → Cyclic W P T
 visit_cyclic W P T M a x M' K' D' o e v = subst (Visiting W P T M a x M' K' D') e v
 
 pub since_true : (W : List Word) (P T X C M K D : List ℕ) (n a n₀ q : ℕ) → Up T → Apps T a → Search W P T M K D a 0 q → Traced T X M n₀ n → (P₀ T₀ X₀ C₀ : List ℕ) (a₀ : ℕ) → Left W P₀ T₀ X₀ C₀ n₀ a₀ P T X C n a → State W P₀ T₀ X₀ C₀ n₀ a₀ → Acyclic W P₀ T₀ → Acyclic W P T

@@ -1,6 +1,6 @@
 -- The cycle test: a search in depth over the applications, with a mark for each. Assumes nothing.
 -- A mark is 0 for an application not yet met, 1 for one on the stack, and a rank from 2 on for one that is done.
-use Rattle.std.specs.Prelude.{◌≡◌, ◌⊎◌, Bool, true, false, List, ◌++◌, ℕ, zero, suc, ◌+◌, ◌-◌, ◌*◌, ◌/◌, ◌%◌, ◌≤◌, ◌<◌, length, get_or, drop}
+use Rattle.std.specs.Prelude.{Option, None, Some, ◌≡◌, ◌⊎◌, Bool, true, false, List, ◌++◌, ℕ, zero, suc, ◌+◌, ◌-◌, ◌*◌, ◌/◌, ◌%◌, ◌≤◌, ◌<◌, length, get_or, drop}
 use Rattle.mem_numbers.specs.Stored.{Stored}
 use Rattle.constraint.specs.Tree.{Label}
 use Rattle.constraint.specs.Constraint.{Asg, In}
@@ -117,9 +117,9 @@ pub record Explored (W : List Word) (P T M : List ℕ) (a k : ℕ) (M' K' D' : L
   pub kept : Marked M M'
   pub met : get_or M' k 0 ≡ 0 → ⊥
 
-abbrev pub Exploring : List Word → List ℕ → List ℕ → List ℕ → ℕ → ℕ → List ℕ → List ℕ → List ℕ → ℕ → Type 0
-Exploring W P T M a k M' K' D' zero = Cyclic W P T
-Exploring W P T M a k M' K' D' (suc q) = Explored W P T M a k M' K' D' (suc q)
+abbrev pub Exploring : List Word → List ℕ → List ℕ → List ℕ → ℕ → ℕ → List ℕ → List ℕ → List ℕ → Option ℕ → Type 0
+Exploring W P T M a k M' K' D' None = Cyclic W P T
+Exploring W P T M a k M' K' D' (Some q) = Explored W P T M a k M' K' D' q
 
 -- an application may be put onto the stack
 pub record CanPlace (M K D : List ℕ) (h j : ℕ) : Type 0 where
@@ -151,11 +151,6 @@ pub record Drained (W : List Word) (P T M : List ℕ) (a : ℕ) (M' K' D' : List
   pub search : Search W P T M' K' D' a 0 q'
   pub kept : Marked M M'
 
-abbrev pub Draining : List Word → List ℕ → List ℕ → List ℕ → ℕ → List ℕ → List ℕ → List ℕ → ℕ → Type 0
-Draining W P T M a M' K' D' zero = Cyclic W P T
-Draining W P T M a M' K' D' (suc q) = Drained W P T M a M' K' D' (suc q)
-
--- the first a marks are 0
-pub record Cleared (M : List ℕ) (a : ℕ) (M' : List ℕ) : Type 0 where
-  pub zero : (k : ℕ) → k < a → get_or M' k 0 ≡ 0
-  pub long : length M' ≡ length M
+abbrev pub Draining : List Word → List ℕ → List ℕ → List ℕ → ℕ → List ℕ → List ℕ → List ℕ → Option ℕ → Type 0
+Draining W P T M a M' K' D' None = Cyclic W P T
+Draining W P T M a M' K' D' (Some q) = Drained W P T M a M' K' D' q

@@ -1,5 +1,5 @@
 -- The cycle test since a mark: only the classes that the trail touches are searched from. Assumes nothing.
-use Rattle.std.specs.Prelude.{◌≡◌, Bool, true, false, List, ℕ, zero, suc, ◌/◌, ◌%◌, ◌≤◌, ◌<◌, length, get_or}
+use Rattle.std.specs.Prelude.{Option, None, Some, ◌≡◌, Bool, true, false, List, ℕ, zero, suc, ◌/◌, ◌%◌, ◌≤◌, ◌<◌, length, get_or}
 use Rattle.mem_words.specs.declared.Word.{Word}
 use Rattle.solve_classes.specs.Means.{OldVars}
 use Rattle.solve_tells.specs.Tells.{State, Left}
@@ -25,9 +25,9 @@ pub record Visited (W : List Word) (P T M : List ℕ) (a x : ℕ) (M' K' D' : Li
   pub kept : Marked M M'
   pub met : Reached T M' x
 
-abbrev pub Visiting : List Word → List ℕ → List ℕ → List ℕ → ℕ → ℕ → List ℕ → List ℕ → List ℕ → ℕ → Type 0
-Visiting W P T M a x M' K' D' zero = Cyclic W P T
-Visiting W P T M a x M' K' D' (suc q) = Visited W P T M a x M' K' D' (suc q)
+abbrev pub Visiting : List Word → List ℕ → List ℕ → List ℕ → ℕ → ℕ → List ℕ → List ℕ → List ℕ → Option ℕ → Type 0
+Visiting W P T M a x M' K' D' None = Cyclic W P T
+Visiting W P T M a x M' K' D' (Some q) = Visited W P T M a x M' K' D' q
 
 -- what a test since the mark n₀ needs
 pub record CanSince (W : List Word) (P T X M K D : List ℕ) (n a n₀ : ℕ) : Type 0 where

@@ -5,7 +5,8 @@ ghost use Rattle.mem_numbers.specs.Numbers.{triples};
 ghost use Rattle.mem_words.specs.Words.{words};
 ghost use Rattle.solve_explores.specs.Search.{ChildAt, CanLook};
 
-// What an application's argument leads to: there is none, or an unbound class, or the application of a bound one.
+// What an application's argument leads to: there is none, or an unbound class, or the application of a bound one. Not an Option, which
+// would hold another.
 #[derive(Clone, Copy)]
 pub enum Child {
     Last,
@@ -23,7 +24,7 @@ pub fn look(t: &[u8], cells: &[u8], c: usize) -> Child
         return Child::Last;
     }
     let r = solve_cells::find(cells, solve_fields::var_of(w));
-    let d = mem_numbers::triple_get(cells, r);
+    let d = mem_numbers::get::<3>(cells, r);
     if d % 4 != 2 {
         return Child::Open;
     }

@@ -13,9 +13,10 @@ pub fn peek(t: &[u8], i: usize) -> Word
     ensures { result ≡ get_or (words t.now) i Word.Bad }
 {
     if i < mem_words::count(t) {
-        return mem_get::get(t, i);
+        mem_get::get(t, i)
+    } else {
+        Word::Bad
     }
-    Word::Bad
 }
 
 // The variable of a word.
@@ -23,13 +24,8 @@ pub fn var_of(w: Word) -> usize
     ensures { result ≡ var_of w }
 {
     match w {
-        Word::End => 0,
         Word::Free(v) => v,
-        Word::Level(_) => 0,
-        Word::Num(_) => 0,
-        Word::Place(_) => 0,
-        Word::Inner(_) => 0,
-        Word::Bad => 0,
+        _ => 0,
     }
 }
 
@@ -38,13 +34,8 @@ pub fn num_of(w: Word) -> usize
     ensures { result ≡ num_of w }
 {
     match w {
-        Word::End => 0,
-        Word::Free(_) => 0,
-        Word::Level(_) => 0,
         Word::Num(v) => v,
-        Word::Place(_) => 0,
-        Word::Inner(_) => 0,
-        Word::Bad => 0,
+        _ => 0,
     }
 }
 
@@ -52,23 +43,12 @@ pub fn num_of(w: Word) -> usize
 pub fn is_var(w: Word) -> bool
     ensures { result ≡ is_var w }
 {
-    match w {
-        Word::End => false,
-        Word::Free(_) => true,
-        Word::Level(_) => false,
-        Word::Num(_) => false,
-        Word::Place(_) => false,
-        Word::Inner(_) => false,
-        Word::Bad => false,
-    }
+    matches!(w, Word::Free(_))
 }
 
 // The one comparison of labels, by their numbers.
 pub fn same_label(f: usize, g: usize) -> bool
     ensures { Decides (f ≡ g) result }
 {
-    if f == g {
-        return true;
-    }
-    false
+    f == g
 }

@@ -12,10 +12,8 @@ pub fn vars_below(t: &[u8], limit: usize) -> bool
         return false;
     }
     let n = mem_words::count(t);
-    let mut i = 0;
-    while i < n {
+    for i in 0..n {
         let v = solve_fields::var_of(mem_get::get(t, i));
-        i += 1;
         if limit <= v {
             return false;
         }

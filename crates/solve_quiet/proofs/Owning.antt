@@ -18,8 +18,9 @@ use Rattle.solve_classes.proofs.Linking.{root_cell, one_vars, rep_in, within_sav
 use Rattle.solve_tells.specs.Steps.{Filled}
 use Rattle.solve_tells.proofs.Trails.{vars_none, vars_split, vars_of_lem, in_of, filled_then}
 use Rattle.solve_quiet.specs.Owners.{Cand, Outer, Alone, Owning, Loud, Marks, CanOwn, CanLookAll, CanLookOne, Looking}
-use Rattle.solve_quiet.specs.declared.Owned.{Owned}
-use Rattle.solve_quiet.specs.declared.Owned.TheVariants.{Apart, Joint, NoPlace}
+use Rattle.std.specs.Prelude.{Result, Ok, Err}
+use Rattle.solve_quiet.specs.declared.Unowned.{Unowned}
+use Rattle.solve_quiet.specs.declared.Unowned.TheVariants.{Joint, NoPlace}
 
 pub owning_first : (L T X C : List ℕ) (from n : ℕ) → CanLookAll L T X C from n → Owning L T X C from n T X C from n
 owning_first L T X C from n h = record {
@@ -203,12 +204,10 @@ pub can_own : (L T X C : List ℕ) (from n : ℕ) (O X' C' : List ℕ) (i m : �
 can_own L T X C from n O X' C' i m h w a b = record { owning = w; base = h.up; start = a; end = b; fits = w.grown.le; olds = h.olds; locals = h.locals }
 
 -- the loop over the entries
-module _ (L T X C : List ℕ) (from n : ℕ) (O X' C' : List ℕ) (i m : ℕ) (o : Owned) (k : Looking L T X C from n O X' C' i o) where
-  pub went_apart : o ≡ Apart m → Owning L T X C from n O X' C' i m
+module _ (L T X C : List ℕ) (from n : ℕ) (O X' C' : List ℕ) (i m : ℕ) (o : Result ℕ Unowned) (k : Looking L T X C from n O X' C' i o) where
+  pub went_apart : o ≡ Ok m → Owning L T X C from n O X' C' i m
   went_apart e = subst (Looking L T X C from n O X' C' i) e k
 
-  pub went_joint : (j : ℕ) → o ≡ Joint m → Looking L T X C from n O X' C' j (Joint m)
-  went_joint j e = subst (Looking L T X C from n O X' C' i) e k
-
-  pub went_full : (j : ℕ) → o ≡ NoPlace m → Looking L T X C from n O X' C' j (NoPlace m)
-  went_full j e = subst (Looking L T X C from n O X' C' i) e k
+  pub went_less : (j : ℕ) (u : Unowned) → o ≡ Err u → Looking L T X C from n O X' C' j (Err u)
+  went_less j (Joint m) e = subst (Looking L T X C from n O X' C' i) e k
+  went_less j (NoPlace m) e = subst (Looking L T X C from n O X' C' i) e k

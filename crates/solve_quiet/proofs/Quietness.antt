@@ -31,8 +31,9 @@ use Rattle.solve_tells.specs.Steps.{Filled}
 use Rattle.solve_tells.proofs.Trails.{vars_of_lem}
 use Rattle.solve_tells.proofs.Rooms.{within_drawn, old_drawn}
 use Rattle.solve_quiet.specs.declared.Calm.TheVariants.{Silent, Loudly, NoSpace}
-use Rattle.solve_quiet.specs.declared.Owned.{Owned}
-use Rattle.solve_quiet.specs.declared.Owned.TheVariants.{Apart, Joint, NoPlace}
+use Rattle.std.specs.Prelude.{Result, Ok, Err}
+use Rattle.solve_quiet.specs.declared.Unowned.{Unowned}
+use Rattle.solve_quiet.specs.declared.Unowned.TheVariants.{Joint, NoPlace}
 use Rattle.solve_quiet.proofs.Verdict.{ranked, form_of_lem}
 use Rattle.solve_quiet.proofs.Owning.{four, marks_of}
 
@@ -192,18 +193,18 @@ kept_back T X C n O X' C' k T'' s e = record { cells = e ∙ s.grown.back; size_
 pub can_undo : (T X C : List ℕ) (n : ℕ) (O X' C' : List ℕ) (k : ℕ) → Marks T X C n O X' C' k → CanUndo O X' C' k n
 can_undo T X C n O X' C' k s = record { le = s.grown.le; room_x = omega (arith, s.fit_x, s.grown.size_x); room_c = omega (arith, s.fit_c, s.grown.size_c); vars = λ i l h. omega (arith, vars_of_lem X' n k (length T) s.vars i l h, s.grown.size_t) }
 
-module _ (L T X C : List ℕ) (from n : ℕ) (O X' C' : List ℕ) (i k : ℕ) (o : Owned) (w : Looking L T X C from n O X' C' i o) where
-  pub marks_apart : o ≡ Apart k → Marks T X C n O X' C' k
+module _ (L T X C : List ℕ) (from n : ℕ) (O X' C' : List ℕ) (i k : ℕ) (o : Result ℕ Unowned) (w : Looking L T X C from n O X' C' i o) where
+  pub marks_apart : o ≡ Ok k → Marks T X C n O X' C' k
   marks_apart e = marks_of (subst (Looking L T X C from n O X' C' i) e w)
 
-  pub marks_joint : o ≡ Joint k → Marks T X C n O X' C' k
+  pub marks_joint : o ≡ Err (Joint k) → Marks T X C n O X' C' k
   marks_joint e = (subst (Looking L T X C from n O X' C' i) e w).0
 
-  pub loud_joint : o ≡ Joint k → Loud L T X C from n
+  pub loud_joint : o ≡ Err (Joint k) → Loud L T X C from n
   loud_joint e = (subst (Looking L T X C from n O X' C' i) e w).1
 
-  pub marks_full : o ≡ NoPlace k → Marks T X C n O X' C' k
+  pub marks_full : o ≡ Err (NoPlace k) → Marks T X C n O X' C' k
   marks_full e = (subst (Looking L T X C from n O X' C' i) e w).0
 
-  pub full_place : o ≡ NoPlace k → Filled X C k
+  pub full_place : o ≡ Err (NoPlace k) → Filled X C k
   full_place e = (subst (Looking L T X C from n O X' C' i) e w).1

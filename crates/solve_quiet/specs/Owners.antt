@@ -1,13 +1,13 @@
 -- The quiet test on the tables: each variable that was unbound at a mark and is no local is still unbound, and apart from
 -- the others. A local representative is owned, for the test, by the one such variable of its class. Assumes nothing.
-use Rattle.std.specs.Prelude.{◌≡◌, ◌⊎◌, List, ℕ, ◌+◌, ◌/◌, ◌%◌, ◌≤◌, ◌<◌, length, get_or}
+use Rattle.std.specs.Prelude.{Result, Ok, Err, ◌≡◌, ◌⊎◌, List, ℕ, ◌+◌, ◌/◌, ◌%◌, ◌≤◌, ◌<◌, length, get_or}
 use Rattle.solve_cells.specs.Cells.{par, rep, Up}
 use Rattle.solve_cells.specs.Trail.{Grown}
 use Rattle.solve_classes.specs.Means.{OldVars, OldIn, Within}
 use Rattle.solve_classes.specs.Weights.{weights}
 use Rattle.solve_tells.specs.Steps.{Filled}
-use Rattle.solve_quiet.specs.declared.Owned.{Owned}
-use Rattle.solve_quiet.specs.declared.Owned.TheVariants.{Apart, Joint, NoPlace}
+use Rattle.solve_quiet.specs.declared.Unowned.{Unowned}
+use Rattle.solve_quiet.specs.declared.Unowned.TheVariants.{Joint, NoPlace}
 
 -- y was unbound at the mark `from`: the trail says so, or it is unbound still
 unfoldable pub Cand : List ℕ → List ℕ → List ℕ → ℕ → ℕ → ℕ → Type 0
@@ -53,10 +53,10 @@ pub record Marks (T X C : List ℕ) (n : ℕ) (O X' C' : List ℕ) (m : ℕ) : T
   pub cost : m + weights T ≤ n + weights O
   pub within : (vs : List ℕ) → OldIn X 0 n vs → Within vs T → Within vs O
 
-abbrev pub Looking : List ℕ → List ℕ → List ℕ → List ℕ → ℕ → ℕ → List ℕ → List ℕ → List ℕ → ℕ → Owned → Type 0
-Looking L T X C from n O X' C' i (Apart m) = Owning L T X C from n O X' C' i m
-Looking L T X C from n O X' C' i (Joint m) = Marks T X C n O X' C' m × Loud L T X C from n
-Looking L T X C from n O X' C' i (NoPlace m) = Marks T X C n O X' C' m × Filled X C m
+abbrev pub Looking : List ℕ → List ℕ → List ℕ → List ℕ → ℕ → ℕ → List ℕ → List ℕ → List ℕ → ℕ → Result ℕ Unowned → Type 0
+Looking L T X C from n O X' C' i (Ok m) = Owning L T X C from n O X' C' i m
+Looking L T X C from n O X' C' i (Err (Joint m)) = Marks T X C n O X' C' m × Loud L T X C from n
+Looking L T X C from n O X' C' i (Err (NoPlace m)) = Marks T X C n O X' C' m × Filled X C m
 
 -- one entry of the trail may be looked at
 pub record CanOwn (L T X C : List ℕ) (from n : ℕ) (O X' C' : List ℕ) (i m : ℕ) : Type 0 where

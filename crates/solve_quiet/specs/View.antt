@@ -1,5 +1,5 @@
 -- The class of a variable and what it is bound to, as answers need them. Assumes nothing.
-use Rattle.std.specs.Prelude.{◌≡◌, List, ℕ, ◌/◌, ◌%◌, ◌≤◌, ◌<◌, length, get_or}
+use Rattle.std.specs.Prelude.{Option, None, Some, ◌≡◌, List, ℕ, ◌/◌, ◌%◌, ◌≤◌, ◌<◌, length, get_or}
 use Rattle.constraint.specs.Tree.{Label}
 use Rattle.constraint.specs.Constraint.{Asg}
 use Rattle.constraint.specs.Solve.{Bnd, free}
@@ -8,7 +8,6 @@ use Rattle.solve_cells.specs.Cells.{rep, Up}
 use Rattle.solve_classes.specs.Means.{bound, Fits, Apps}
 use Rattle.solve_fields.specs.Read.{tab_of, term_at, tree_at}
 use Rattle.solve_quiet.specs.declared.View.{View}
-use Rattle.solve_quiet.specs.declared.View.TheVariants.{Unbound, Bound}
 
 -- what may be looked up
 pub record CanView (P T : List ℕ) (x : ℕ) : Type 0 where
@@ -28,6 +27,10 @@ pub record Term (P T : List ℕ) (x r p : ℕ) : Type 0 where
   pub binding : (lab : ℕ → Label) (W : List Word) → bound (tab_of lab W P) (get_or T (rep T x) 0) ≡ term_at lab W p
   pub tree : (lab : ℕ → Label) (W : List Word) (ρ : Asg) → Fits (tab_of lab W P) T ρ → ρ x ≡ tree_at lab W ρ p
 
+-- the binding of the class of x, with r for it
+abbrev pub Binding : List ℕ → List ℕ → ℕ → ℕ → Option ℕ → Type 0
+Binding P T x r None = Free P T x r
+Binding P T x r (Some p) = Term P T x r p
+
 abbrev pub Viewed : List ℕ → List ℕ → ℕ → View → Type 0
-Viewed P T x (Unbound r) = Free P T x r.0
-Viewed P T x (Bound r p) = Term P T x r.0 p
+Viewed P T x v = Binding P T x v.root.0 v.term

@@ -4,15 +4,16 @@
 
 use mem_variables::Variable;
 
-// How looking for owners went, with the length of the trail after it.
+// Why not every variable has a class of its own, with the length of the trail after the looking: one is bound or joined to another, or
+// the trail had no place for an owner.
 #[derive(Clone, Copy)]
-pub enum Owned {
-    Apart(usize),
+pub enum Unowned {
     Joint(usize),
     NoPlace(usize),
 }
 
-// Whether a store is quiet; or the trail has no space to find out.
+// Whether a store is quiet; or the trail has no space to find out. Three answers and no Result: each caller says what it makes of the
+// third.
 #[derive(Clone, Copy)]
 pub enum Calm {
     Silent,
@@ -20,9 +21,9 @@ pub enum Calm {
     NoSpace,
 }
 
-// The representative of a class that is unbound; or that of a bound one, and where its application begins.
+// The representative of a class, and where its application begins, if it is bound.
 #[derive(Clone, Copy)]
-pub enum View {
-    Unbound(Variable),
-    Bound(Variable, usize),
+pub struct View {
+    pub root: Variable,
+    pub term: Option<usize>,
 }

@@ -1,5 +1,6 @@
 -- Holding an application against the class of a variable. Assumes nothing.
 use mathlib.Core.Path.{◌≡◌, refl, ap, sym, ◌∙◌, subst}
+use Rattle.std.specs.Prelude.{Result, Ok, Err}
 use mathlib.Core.Logic.{◌↔◌}
 use mathlib.Core.List.{List}
 use Prim.Native.Nat.{ℕ, zero, suc, ◌+◌, ◌*◌, ◌/◌, ◌%◌, ◌≤◌, ◌<◌}
@@ -19,8 +20,8 @@ use Rattle.solve_classes.proofs.Linking.{root_cell, one_pend, one_apps, one_vars
 use Rattle.solve_fields.specs.Read.{term_at, tab_of, tree_at, Distinct}
 use Rattle.solve_tells.specs.Reach.{vars_of}
 use Rattle.solve_tells.specs.Steps.{Step, Sound, CanHold, Met, Meeting, Held, Holding}
-use Rattle.solve_tells.specs.declared.Went.{Went}
-use Rattle.solve_tells.specs.declared.Went.TheVariants.{On, Clash, Full}
+use Rattle.solve_tells.specs.declared.Stop.{Stop}
+use Rattle.solve_tells.specs.declared.Stop.TheVariants.{Clash, Full}
 use Rattle.solve_tells.proofs.Trails.{step_none, pend_none, apps_none}
 
 -- x is the application k: it has its tree
@@ -42,8 +43,8 @@ module _ (W : List Word) (P T : List ℕ) (U : Up T) (x r c : ℕ) (f : Found T 
     means = λ lab ρ. (λ w. (w.0, pend_none (tab_of lab W P) X C n ρ), λ w. (w.0, (holds_tree lab W P ρ x k).1 (class_holds lab ρ w.0 ∙ ap (λ (i : ℕ). tree_at lab W ρ (get_or P i 0)) q)));
   }
 
-  pub held_met : (X C : List ℕ) (n k p q : ℕ) (T' X' C' : List ℕ) (o : Went) → p ≡ get_or P k 0 → q ≡ get_or P (c / 256) 0 → Meeting W T X C n p q T' X' C' o → Holding W P T X C n x k T' X' C' o
-  held_met X C n k p q T' X' C' (On n') ep eq m = record {
+  pub held_met : (X C : List ℕ) (n k p q : ℕ) (T' X' C' : List ℕ) (o : Result ℕ Stop) → p ≡ get_or P k 0 → q ≡ get_or P (c / 256) 0 → Meeting W T X C n p q T' X' C' o → Holding W P T X C n x k T' X' C' o
+  held_met X C n k p q T' X' C' (Ok n') ep eq m = record {
     step = m.step;
     apps = λ i l A. m.apps i A;
     means = λ lab ρ. (λ w. (m.means lab (tab_of lab W P) ρ).0 (w.0, at lab ρ p k ep ∙ sym ((holds_tree lab W P ρ x k).0 w.1) ∙ class_holds lab ρ w.0 ∙ sym (at lab ρ q (c / 256) eq)), λ w. let u = (m.means lab (tab_of lab W P) ρ).1 w in (u.0, (holds_tree lab W P ρ x k).1 (class_holds lab ρ u.0 ∙ sym (at lab ρ q (c / 256) eq) ∙ sym u.1 ∙ at lab ρ p k ep)));
@@ -51,8 +52,8 @@ module _ (W : List Word) (P T : List ℕ) (U : Up T) (x r c : ℕ) (f : Found T 
     where
       at : (lab : ℕ → Label) (ρ : Asg) (i j : ℕ) → i ≡ get_or P j 0 → tree_at lab W ρ i ≡ tree_at lab W ρ (get_or P j 0)
       at lab ρ i j z = ap (tree_at lab W ρ) z
-  held_met X C n k p q T' X' C' (Clash n') ep eq m = (m.0, λ lab d ρ F h. m.1 lab d (tab_of lab W P) ρ F (ap (tree_at lab W ρ) ep ∙ sym ((holds_tree lab W P ρ x k).0 h) ∙ class_holds lab ρ F ∙ sym (ap (tree_at lab W ρ) eq)))
-  held_met X C n k p q T' X' C' (Full n') ep eq m = m
+  held_met X C n k p q T' X' C' (Err (Clash n')) ep eq m = (m.0, λ lab d ρ F h. m.1 lab d (tab_of lab W P) ρ F (ap (tree_at lab W ρ) ep ∙ sym ((holds_tree lab W P ρ x k).0 h) ∙ class_holds lab ρ F ∙ sym (ap (tree_at lab W ρ) eq)))
+  held_met X C n k p q T' X' C' (Err (Full n')) ep eq m = m
 
 -- an unbound class is bound
 pub held_bind : (W : List Word) (P T X C : List ℕ) (n x k r c d : ℕ) (T' X' C' : List ℕ) → CanHold W P T X C n x k → Found T x r → c ≡ get_or T r 0 → (c % 4 ≡ 2 → ⊥) → CanSave T X C n r d → Saved T X C n r d T' X' C' → d % 4 ≡ 2 → d / 256 ≡ k → d / 4 % 64 ≡ c / 4 % 64

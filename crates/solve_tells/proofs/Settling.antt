@@ -1,5 +1,6 @@
 -- Settling what joins took away, entry by entry. Assumes nothing.
 use mathlib.Core.Path.{◌≡◌, refl, ap, sym, ◌∙◌, subst}
+use Rattle.std.specs.Prelude.{Result, Ok, Err}
 use mathlib.Core.Logic.{◌↔◌}
 use mathlib.Core.List.{List}
 use Prim.Native.Nat.{ℕ, zero, suc, ◌+◌, ◌*◌, ◌/◌, ◌%◌, ◌≤◌, ◌<◌}
@@ -16,8 +17,8 @@ use Rattle.solve_classes.proofs.Tables.{bound_yes, bound_no, holds_none}
 use Rattle.solve_fields.specs.Read.{tab_of, Distinct}
 use Rattle.solve_tells.specs.Reach.{vars_of}
 use Rattle.solve_tells.specs.Steps.{Step, Sound, CanHold, CanSettle, Held, Holding, Settled, Settling}
-use Rattle.solve_tells.specs.declared.Went.{Went}
-use Rattle.solve_tells.specs.declared.Went.TheVariants.{On, Clash, Full}
+use Rattle.solve_tells.specs.declared.Stop.{Stop}
+use Rattle.solve_tells.specs.declared.Stop.TheVariants.{Clash, Full}
 use Rattle.solve_tells.proofs.Trails.{step_none, step_then, pend_none, pend_first, pend_split, apps_split, vars_split, apps_less, vars_less, in_split, in_less, in_of, apps_of, vars_of_lem, filled_then}
 
 -- what a loop over the entries has done by the i-th
@@ -84,22 +85,26 @@ module _ (W : List Word) (P T₀ X₀ C₀ : List ℕ) (i₀ n₀ : ℕ) (T X C 
         split : (lab : ℕ → Label) (ρ : Asg) → (Pend (tab_of lab W P) X C (i + 1) n ρ × Pend (tab_of lab W P) X' C' n n' ρ) ↔ Pend (tab_of lab W P) X' C' (i + 1) n' ρ
         split lab ρ = pend_split X C X' C' (i + 1) n n' ox oc (tab_of lab W P) ρ (omega arith) H.step.grown.le
 
-    pub settles_clash : Holding W P T X C n x (c / 256) T' X' C' (Clash n') → Settling W P T₀ X₀ C₀ i₀ n₀ T' X' C' (Clash n')
+    pub settles_clash : Holding W P T X C n x (c / 256) T' X' C' (Err (Clash n')) → Settling W P T₀ X₀ C₀ i₀ n₀ T' X' C' (Err (Clash n'))
     settles_clash H = (step_then S.step H.0, λ lab d ρ F p. let u = (S.means lab ρ).0 (F, p) in H.1 lab d ρ u.0 (subst (Holds ρ x) (bound_yes (tab_of lab W P) c t) ((first lab ρ).0 u.1).0))
 
-    pub settles_full : Holding W P T X C n x (c / 256) T' X' C' (Full n') → Settling W P T₀ X₀ C₀ i₀ n₀ T' X' C' (Full n')
+    pub settles_full : Holding W P T X C n x (c / 256) T' X' C' (Err (Full n')) → Settling W P T₀ X₀ C₀ i₀ n₀ T' X' C' (Err (Full n'))
     settles_full H = (step_then S.step H.0, filled_then X₀ C₀ X C n' S.step.grown.size_x S.step.grown.size_c H.1)
 
 -- the same by how the holding went
-module _ (W : List Word) (P T₀ X₀ C₀ : List ℕ) (i₀ n₀ : ℕ) (T X C : List ℕ) (i n x c : ℕ) (S : Settles W P T₀ X₀ C₀ i₀ n₀ T X C i n) (l : i < n) (ex : x ≡ get_or X i 0) (ec : c ≡ get_or C i 0) (t : c % 4 ≡ 2) (T' X' C' : List ℕ) (n' : ℕ) (o : Went) (H : Holding W P T X C n x (c / 256) T' X' C' o) where
-  pub went_on : o ≡ On n' → Settles W P T₀ X₀ C₀ i₀ n₀ T' X' C' (i + 1) n'
+module _ (W : List Word) (P T₀ X₀ C₀ : List ℕ) (i₀ n₀ : ℕ) (T X C : List ℕ) (i n x c : ℕ) (S : Settles W P T₀ X₀ C₀ i₀ n₀ T X C i n) (l : i < n) (ex : x ≡ get_or X i 0) (ec : c ≡ get_or C i 0) (t : c % 4 ≡ 2) (T' X' C' : List ℕ) (n' : ℕ) (o : Result ℕ Stop) (H : Holding W P T X C n x (c / 256) T' X' C' o) where
+  pub went_on : o ≡ Ok n' → Settles W P T₀ X₀ C₀ i₀ n₀ T' X' C' (i + 1) n'
   went_on e = settles_held W P T₀ X₀ C₀ i₀ n₀ T X C i n x c S l ex ec t T' X' C' n' (subst (Holding W P T X C n x (c / 256) T' X' C') e H)
 
-  pub went_clash : o ≡ Clash n' → Settling W P T₀ X₀ C₀ i₀ n₀ T' X' C' (Clash n')
+  pub went_clash : o ≡ Err (Clash n') → Settling W P T₀ X₀ C₀ i₀ n₀ T' X' C' (Err (Clash n'))
   went_clash e = settles_clash W P T₀ X₀ C₀ i₀ n₀ T X C i n x c S l ex ec t T' X' C' n' (subst (Holding W P T X C n x (c / 256) T' X' C') e H)
 
-  pub went_full : o ≡ Full n' → Settling W P T₀ X₀ C₀ i₀ n₀ T' X' C' (Full n')
+  pub went_full : o ≡ Err (Full n') → Settling W P T₀ X₀ C₀ i₀ n₀ T' X' C' (Err (Full n'))
   went_full e = settles_full W P T₀ X₀ C₀ i₀ n₀ T X C i n x c S l ex ec t T' X' C' n' (subst (Holding W P T X C n x (c / 256) T' X' C') e H)
+
+pub went_stop : (W : List Word) (P T₀ X₀ C₀ : List ℕ) (i₀ n₀ : ℕ) (T X C : List ℕ) (i n x c : ℕ) (S : Settles W P T₀ X₀ C₀ i₀ n₀ T X C i n) (l : i < n) (ex : x ≡ get_or X i 0) (ec : c ≡ get_or C i 0) (t : c % 4 ≡ 2) (T' X' C' : List ℕ) (o : Result ℕ Stop) (H : Holding W P T X C n x (c / 256) T' X' C' o) (s : Stop) → o ≡ Err s → Settling W P T₀ X₀ C₀ i₀ n₀ T' X' C' (Err s)
+went_stop W P T₀ X₀ C₀ i₀ n₀ T X C i n x c S l ex ec t T' X' C' o H (Clash m) = went_clash W P T₀ X₀ C₀ i₀ n₀ T X C i n x c S l ex ec t T' X' C' m o H
+went_stop W P T₀ X₀ C₀ i₀ n₀ T X C i n x c S l ex ec t T' X' C' o H (Full m) = went_full W P T₀ X₀ C₀ i₀ n₀ T X C i n x c S l ex ec t T' X' C' m o H
 
 pub settles_done : (W : List Word) (P T₀ X₀ C₀ : List ℕ) (i₀ n₀ : ℕ) (T X C : List ℕ) (i n : ℕ) → Settles W P T₀ X₀ C₀ i₀ n₀ T X C i n → n ≤ i → Settled W P T₀ X₀ C₀ i₀ n₀ T X C n
 settles_done W P T₀ X₀ C₀ i₀ n₀ T X C i n S l = record {

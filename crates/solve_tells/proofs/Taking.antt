@@ -1,5 +1,6 @@
 -- One constraint: a join or a holding, and then what it took away is settled. Assumes nothing.
 use mathlib.Core.Path.{◌≡◌, refl, ap, sym, ◌∙◌, subst}
+use Rattle.std.specs.Prelude.{Result, Ok, Err}
 use mathlib.Core.Logic.{◌↔◌}
 use mathlib.Core.List.{List}
 use Prim.Native.Nat.{ℕ, zero, suc, ◌+◌, ◌≤◌, ◌<◌}
@@ -13,8 +14,8 @@ use Rattle.solve_classes.specs.Means.{Fits, Pend, Apps, OldApps, OldVars, Within
 use Rattle.solve_fields.specs.Read.{tab_of, Distinct}
 use Rattle.solve_tells.specs.Reach.{vars_of}
 use Rattle.solve_tells.specs.Steps.{Step, Sound, Held, Holding, CanSettle, Settled, Settling}
-use Rattle.solve_tells.specs.declared.Went.{Went}
-use Rattle.solve_tells.specs.declared.Went.TheVariants.{On, Clash, Full}
+use Rattle.solve_tells.specs.declared.Stop.{Stop}
+use Rattle.solve_tells.specs.declared.Stop.TheVariants.{Clash, Full}
 use Rattle.solve_tells.proofs.Trails.{step_then, step_joined, filled_then}
 use Rattle.solve_tells.specs.Takes.{CanEquate, CanApply, Took, Taking}
 
@@ -27,14 +28,12 @@ pub record Taken (W : List Word) (P T X C : List ℕ) (n b : ℕ) (Q : (ℕ → 
 pub taken_joined : (W : List Word) (P T X C : List ℕ) (n x y : ℕ) (T₁ X₁ C₁ : List ℕ) (m : ℕ) → Joined T X C n x y T₁ X₁ C₁ m → In x (vars_of W) → In y (vars_of W) → Within (vars_of W) T → n + 2 ≤ length X → n + 2 ≤ length C → Taken W P T X C n 0 (λ lab ρ. ρ x ≡ ρ y) T₁ X₁ C₁ m
 taken_joined W P T X C n x y T₁ X₁ C₁ m j ix iy w rx rc = record { step = step_joined W j ix iy w rx rc; apps = λ i l A. j.apps i A; means = λ lab ρ. j.means (tab_of lab W P) ρ }
 
-pub taken_held : (W : List Word) (P T X C : List ℕ) (n x k : ℕ) (T₁ X₁ C₁ : List ℕ) (m : ℕ) (o : Went) → Holding W P T X C n x k T₁ X₁ C₁ o → o ≡ On m → Taken W P T X C n (k + 1) (λ lab ρ. Holds ρ x (tab_of lab W P k)) T₁ X₁ C₁ m
+pub taken_held : (W : List Word) (P T X C : List ℕ) (n x k : ℕ) (T₁ X₁ C₁ : List ℕ) (m : ℕ) (o : Result ℕ Stop) → Holding W P T X C n x k T₁ X₁ C₁ o → o ≡ Ok m → Taken W P T X C n (k + 1) (λ lab ρ. Holds ρ x (tab_of lab W P k)) T₁ X₁ C₁ m
 taken_held W P T X C n x k T₁ X₁ C₁ m o h e = let g : Held W P T X C n x k T₁ X₁ C₁ m = subst (Holding W P T X C n x k T₁ X₁ C₁) e h in record { step = g.step; apps = λ i l A. g.apps i (omega arith) A; means = g.means }
 
-pub held_clash : (W : List Word) (P T X C : List ℕ) (n x k : ℕ) (T₁ X₁ C₁ : List ℕ) (m b : ℕ) (o : Went) → Holding W P T X C n x k T₁ X₁ C₁ o → o ≡ Clash m → Taking W P T X C n b (λ lab ρ. Holds ρ x (tab_of lab W P k)) T₁ X₁ C₁ (Clash m)
-held_clash W P T X C n x k T₁ X₁ C₁ m b o h e = subst (Holding W P T X C n x k T₁ X₁ C₁) e h
-
-pub held_full : (W : List Word) (P T X C : List ℕ) (n x k : ℕ) (T₁ X₁ C₁ : List ℕ) (m b : ℕ) (o : Went) → Holding W P T X C n x k T₁ X₁ C₁ o → o ≡ Full m → Taking W P T X C n b (λ lab ρ. Holds ρ x (tab_of lab W P k)) T₁ X₁ C₁ (Full m)
-held_full W P T X C n x k T₁ X₁ C₁ m b o h e = subst (Holding W P T X C n x k T₁ X₁ C₁) e h
+pub held_stop : (W : List Word) (P T X C : List ℕ) (n x k : ℕ) (T₁ X₁ C₁ : List ℕ) (b : ℕ) (o : Result ℕ Stop) → Holding W P T X C n x k T₁ X₁ C₁ o → (s : Stop) → o ≡ Err s → Taking W P T X C n b (λ lab ρ. Holds ρ x (tab_of lab W P k)) T₁ X₁ C₁ (Err s)
+held_stop W P T X C n x k T₁ X₁ C₁ b o h (Clash m) e = subst (Holding W P T X C n x k T₁ X₁ C₁) e h
+held_stop W P T X C n x k T₁ X₁ C₁ b o h (Full m) e = subst (Holding W P T X C n x k T₁ X₁ C₁) e h
 
 module _ (W : List Word) (P T X C : List ℕ) (n b : ℕ) (Q : (ℕ → Label) → Asg → Type 0) (T₁ X₁ C₁ : List ℕ) (m : ℕ) (K : Taken W P T X C n b Q T₁ X₁ C₁ m) where
   pub can_settle : Sound W T X C n → Apps T (length P) → length P ≤ 65536 → b ≤ length P → CanSettle W P T₁ X₁ C₁ n m
@@ -50,11 +49,11 @@ module _ (W : List Word) (P T X C : List ℕ) (n b : ℕ) (Q : (ℕ → Label) �
         size = z;
       }
 
-  pub taking_settled : (T₂ X₂ C₂ : List ℕ) (o : Went) → Settling W P T₁ X₁ C₁ n m T₂ X₂ C₂ o → Taking W P T X C n b Q T₂ X₂ C₂ o
-  taking_settled T₂ X₂ C₂ (On n') s = record {
+  pub taking_settled : (T₂ X₂ C₂ : List ℕ) (o : Result ℕ Stop) → Settling W P T₁ X₁ C₁ n m T₂ X₂ C₂ o → Taking W P T X C n b Q T₂ X₂ C₂ o
+  taking_settled T₂ X₂ C₂ (Ok n') s = record {
     step = step_then K.step s.step;
     apps = λ i l A. let a = K.apps i l A in s.apps i a.0 a.1;
     means = λ lab ρ. (λ w. (s.means lab ρ).0 ((K.means lab ρ).0 w), λ w. (K.means lab ρ).1 ((s.means lab ρ).1 w));
   }
-  taking_settled T₂ X₂ C₂ (Clash n') s = (step_then K.step s.0, λ lab d ρ F q. let w = (K.means lab ρ).0 (F, q) in s.1 lab d ρ w.0 w.1)
-  taking_settled T₂ X₂ C₂ (Full n') s = (step_then K.step s.0, filled_then X C X₁ C₁ n' K.step.grown.size_x K.step.grown.size_c s.1)
+  taking_settled T₂ X₂ C₂ (Err (Clash n')) s = (step_then K.step s.0, λ lab d ρ F q. let w = (K.means lab ρ).0 (F, q) in s.1 lab d ρ w.0 w.1)
+  taking_settled T₂ X₂ C₂ (Err (Full n')) s = (step_then K.step s.0, filled_then X C X₁ C₁ n' K.step.grown.size_x K.step.grown.size_c s.1)

@@ -1,5 +1,6 @@
 -- Telling keeps the tables sound, and has them mean what was told; it can be taken back. Assumes nothing.
 use mathlib.Core.Path.{◌≡◌, refl, ap, sym, ◌∙◌, subst}
+use Rattle.std.specs.Prelude.{Result, Ok, Err}
 use mathlib.Core.Logic.{◌↔◌, ◌⊎◌, inl, inr}
 use mathlib.Core.List.{List, [], ◌∷◌, ◌++◌, append_assoc, append-nil}
 use Prim.Native.Nat.{ℕ, zero, suc, ◌+◌, ◌-◌, ◌≤◌, ◌<◌, ◌/◌, ◌%◌}
@@ -22,12 +23,12 @@ use Rattle.solve_classes.proofs.Linking.{apps_at_lem}
 use Rattle.solve_fields.specs.Read.{term_at, tab_of, Distinct, Vars, starts}
 use Rattle.solve_tells.specs.Reach.{vars_of}
 use Rattle.solve_tells.specs.Steps.{Step, Sound}
-use Rattle.solve_tells.specs.declared.Went.{Went}
-use Rattle.solve_tells.specs.declared.Went.TheVariants.{On, Clash, Full}
+use Rattle.solve_tells.specs.declared.Stop.{Stop}
+use Rattle.solve_tells.specs.declared.Stop.TheVariants.{Clash, Full}
 use Rattle.solve_tells.proofs.Trails.{step_none, step_then, vars_split, in_split, filled_then}
 use Rattle.solve_begins.specs.Begins.{begins_of}
 use Rattle.solve_tells.specs.Takes.{Took, Taking}
-use Rattle.solve_tells.specs.Tells.{State, Means, Left, Done, Clashed, Lacks, Stopped, Telling, Back, one_at, range_of, apps_at, apps_in}
+use Rattle.solve_tells.specs.Tells.{State, Means, Left, Done, Clashed, Lacks, Stopped, Telling, told_by, Back, one_at, range_of, apps_at, apps_in}
 use Rattle.solve_tells.specs.declared.Told.{Told}
 use Rattle.solve_tells.specs.declared.Told.TheVariants.{All, Failed, NoRoom}
 use Rattle.solve_tells.proofs.Counts.{app_one, apps_more, apps_split}
@@ -84,12 +85,12 @@ one_fail W P T X C n a i b s e n1 = record {
 }
 
 -- a constraint that was taken in with the applications P₁
-module _ (W : List Word) (P T X C : List ℕ) (n a : ℕ) (s : State W P T X C n a) (P₁ : List ℕ) (z : length P₁ ≡ length P) (h : (i : ℕ) → i < a → get_or P₁ i 0 ≡ get_or P i 0) (S : (ℕ → Label) → Store) (Q : (ℕ → Label) → Asg → Type 0) (sat : (lab : ℕ → Label) (ρ : Asg) → Sats ρ (S lab) ↔ Q lab ρ) (b a₁ : ℕ) (le : a ≤ a₁) (lb : b ≤ a₁) (lp : a₁ ≤ length P₁) (k : ℕ) (lk : a₁ ≤ a + k) (T' X' C' : List ℕ) (n' : ℕ) (o : Went) (K : Taking W P₁ T X C n b Q T' X' C' o) where
+module _ (W : List Word) (P T X C : List ℕ) (n a : ℕ) (s : State W P T X C n a) (P₁ : List ℕ) (z : length P₁ ≡ length P) (h : (i : ℕ) → i < a → get_or P₁ i 0 ≡ get_or P i 0) (S : (ℕ → Label) → Store) (Q : (ℕ → Label) → Asg → Type 0) (sat : (lab : ℕ → Label) (ρ : Asg) → Sats ρ (S lab) ↔ Q lab ρ) (b a₁ : ℕ) (le : a ≤ a₁) (lb : b ≤ a₁) (lp : a₁ ≤ length P₁) (k : ℕ) (lk : a₁ ≤ a + k) (T' X' C' : List ℕ) (n' : ℕ) (o : Result ℕ Stop) (K : Taking W P₁ T X C n b Q T' X' C' o) where
   wide : (T : List ℕ) → Apps T a → Apps T a₁
   unfolding Apps
   wide T A x e = omega (arith, A x e)
 
-  pub one_on : o ≡ On n' → Done W P T X C n a k S P₁ T' X' C' n' a₁
+  pub one_on : o ≡ Ok n' → Done W P T X C n a k S P₁ T' X' C' n' a₁
   unfolding Means
   one_on e = record {
     left = record { step = K'.step; more = le; size_p = z; old_p = h };
@@ -104,21 +105,26 @@ module _ (W : List Word) (P T X C : List ℕ) (n a : ℕ) (s : State W P T X C n
       f : (lab : ℕ → Label) (ρ : Asg) → Fits (tab_of lab W P) T ρ ↔ Fits (tab_of lab W P₁) T ρ
       f lab ρ = fits_table W P P₁ T a s.apps h lab ρ
 
-  pub one_clash : o ≡ Clash n' → Clashed W P T X C n a S P₁ T' X' C' n' a₁
+  pub one_clash : o ≡ Err (Clash n') → Clashed W P T X C n a S P₁ T' X' C' n' a₁
   unfolding Means
   one_clash e = record {
     left = record { step = K'.0; more = le; size_p = z; old_p = h };
     none = λ lab d σ m ρ q. let w = (sats_append ρ σ (S lab)).0 q in K'.1 lab d ρ ((fits_table W P P₁ T a s.apps h lab ρ).0 ((m ρ).0 w.0)) ((sat lab ρ).0 w.1);
   }
     where
-      K' : Taking W P₁ T X C n b Q T' X' C' (Clash n')
+      K' : Taking W P₁ T X C n b Q T' X' C' (Err (Clash n'))
       K' = subst (Taking W P₁ T X C n b Q T' X' C') e K
 
-  pub one_full : o ≡ Full n' → Stopped W P T X C n a k P₁ T' X' C' n' a₁
+  pub one_full : o ≡ Err (Full n') → Stopped W P T X C n a k P₁ T' X' C' n' a₁
   one_full e = record { left = record { step = K'.0; more = le; size_p = z; old_p = h }; full = inl K'.1 }
     where
-      K' : Taking W P₁ T X C n b Q T' X' C' (Full n')
+      K' : Taking W P₁ T X C n b Q T' X' C' (Err (Full n'))
       K' = subst (Taking W P₁ T X C n b Q T' X' C') e K
+
+pub one_told : (W : List Word) (P T X C : List ℕ) (n a : ℕ) (s : State W P T X C n a) (P₁ : List ℕ) (z : length P₁ ≡ length P) (h : (i : ℕ) → i < a → get_or P₁ i 0 ≡ get_or P i 0) (S : (ℕ → Label) → Store) (Q : (ℕ → Label) → Asg → Type 0) (sat : (lab : ℕ → Label) (ρ : Asg) → Sats ρ (S lab) ↔ Q lab ρ) (b a₁ : ℕ) (le : a ≤ a₁) (lb : b ≤ a₁) (lp : a₁ ≤ length P₁) (k : ℕ) (lk : a₁ ≤ a + k) (T' X' C' : List ℕ) (o : Result ℕ Stop) → Taking W P₁ T X C n b Q T' X' C' o → Telling W P T X C n a k S P₁ T' X' C' (told_by o a₁)
+one_told W P T X C n a s P₁ z h S Q sat b a₁ le lb lp k lk T' X' C' (Ok m) K = one_on W P T X C n a s P₁ z h S Q sat b a₁ le lb lp k lk T' X' C' m (Ok m) K refl
+one_told W P T X C n a s P₁ z h S Q sat b a₁ le lb lp k lk T' X' C' (Err (Clash m)) K = one_clash W P T X C n a s P₁ z h S Q sat b a₁ le lb lp k lk T' X' C' m (Err (Clash m)) K refl
+one_told W P T X C n a s P₁ z h S Q sat b a₁ le lb lp k lk T' X' C' (Err (Full m)) K = one_full W P T X C n a s P₁ z h S Q sat b a₁ le lb lp k lk T' X' C' m (Err (Full m)) K refl
 
 pub no_apps : (W : List Word) (P T X C : List ℕ) (n a i b : ℕ) → State W P T X C n a → b ≡ begins_of (get_or W i Bad) → b ≡ 3 → length P ≤ a → Stopped W P T X C n a (apps_at W i) P T X C n a
 no_apps W P T X C n a i b s e z l = record { left = left_none W P T X C n a s; full = inr (omega (arith, app_one W i b e z)) }

@@ -1,5 +1,5 @@
 -- What the steps of telling do: each keeps the solutions and can be taken back. Assumes nothing.
-use Rattle.std.specs.Prelude.{◌≡◌, ◌↔◌, ◌⊎◌, Bool, true, false, List, ℕ, ◌+◌, ◌%◌, ◌≤◌, ◌<◌, length, get_or}
+use Rattle.std.specs.Prelude.{Result, Ok, Err, ◌≡◌, ◌↔◌, ◌⊎◌, Bool, true, false, List, ℕ, ◌+◌, ◌%◌, ◌≤◌, ◌<◌, length, get_or}
 use Rattle.constraint.specs.Tree.{Label}
 use Rattle.constraint.specs.Constraint.{Asg, In}
 use Rattle.constraint.specs.Solve.{Bnd}
@@ -11,8 +11,8 @@ use Rattle.solve_classes.specs.Weights.{weights}
 use Rattle.solve_classes.specs.Means.{Fits, Pend, Apps, OldApps, OldVars, Plain, Within, OldIn}
 use Rattle.solve_fields.specs.Read.{tab_of, tree_at, Distinct, Vars}
 use Rattle.solve_tells.specs.Reach.{vars_of}
-use Rattle.solve_tells.specs.declared.Went.{Went}
-use Rattle.solve_tells.specs.declared.Went.TheVariants.{On, Clash, Full}
+use Rattle.solve_tells.specs.declared.Stop.{Stop}
+use Rattle.solve_tells.specs.declared.Stop.TheVariants.{Clash, Full}
 
 -- changes that can be taken back and leave a sound table; the table grows heavier by at least as many as they are, and only
 -- cells of the words' variables are touched
@@ -57,10 +57,10 @@ pub record Met (W : List Word) (T X C : List ℕ) (n p q : ℕ) (T' X' C' : List
   pub apps : (m : ℕ) → Apps T m → Apps T' m × OldApps C' n n' m
   pub means : (lab : ℕ → Label) (tab : ℕ → Bnd) (ρ : Asg) → (Fits tab T ρ × (tree_at lab W ρ p ≡ tree_at lab W ρ q)) ↔ (Fits tab T' ρ × Pend tab X' C' n n' ρ)
 
-abbrev pub Meeting : List Word → List ℕ → List ℕ → List ℕ → ℕ → ℕ → ℕ → List ℕ → List ℕ → List ℕ → Went → Type 0
-Meeting W T X C n p q T' X' C' (On n') = Met W T X C n p q T' X' C' n'
-Meeting W T X C n p q T' X' C' (Clash n') = Step W T X C n T' X' C' n' × ((lab : ℕ → Label) → Distinct lab → (tab : ℕ → Bnd) (ρ : Asg) → Fits tab T ρ → tree_at lab W ρ p ≡ tree_at lab W ρ q → ⊥)
-Meeting W T X C n p q T' X' C' (Full n') = Step W T X C n T' X' C' n' × Filled X C n'
+abbrev pub Meeting : List Word → List ℕ → List ℕ → List ℕ → ℕ → ℕ → ℕ → List ℕ → List ℕ → List ℕ → Result ℕ Stop → Type 0
+Meeting W T X C n p q T' X' C' (Ok n') = Met W T X C n p q T' X' C' n'
+Meeting W T X C n p q T' X' C' (Err (Clash n')) = Step W T X C n T' X' C' n' × ((lab : ℕ → Label) → Distinct lab → (tab : ℕ → Bnd) (ρ : Asg) → Fits tab T ρ → tree_at lab W ρ p ≡ tree_at lab W ρ q → ⊥)
+Meeting W T X C n p q T' X' C' (Err (Full n')) = Step W T X C n T' X' C' n' × Filled X C n'
 
 -- the application k may be asked of x
 pub record CanHold (W : List Word) (P T X C : List ℕ) (n x k : ℕ) : Type 0 where
@@ -77,10 +77,10 @@ pub record Held (W : List Word) (P T X C : List ℕ) (n x k : ℕ) (T' X' C' : L
   pub apps : (m : ℕ) → k < m → Apps T m → Apps T' m × OldApps C' n n' m
   pub means : (lab : ℕ → Label) (ρ : Asg) → (Fits (tab_of lab W P) T ρ × Holds ρ x (tab_of lab W P k)) ↔ (Fits (tab_of lab W P) T' ρ × Pend (tab_of lab W P) X' C' n n' ρ)
 
-abbrev pub Holding : List Word → List ℕ → List ℕ → List ℕ → List ℕ → ℕ → ℕ → ℕ → List ℕ → List ℕ → List ℕ → Went → Type 0
-Holding W P T X C n x k T' X' C' (On n') = Held W P T X C n x k T' X' C' n'
-Holding W P T X C n x k T' X' C' (Clash n') = Step W T X C n T' X' C' n' × ((lab : ℕ → Label) → Distinct lab → (ρ : Asg) → Fits (tab_of lab W P) T ρ → Holds ρ x (tab_of lab W P k) → ⊥)
-Holding W P T X C n x k T' X' C' (Full n') = Step W T X C n T' X' C' n' × Filled X C n'
+abbrev pub Holding : List Word → List ℕ → List ℕ → List ℕ → List ℕ → ℕ → ℕ → ℕ → List ℕ → List ℕ → List ℕ → Result ℕ Stop → Type 0
+Holding W P T X C n x k T' X' C' (Ok n') = Held W P T X C n x k T' X' C' n'
+Holding W P T X C n x k T' X' C' (Err (Clash n')) = Step W T X C n T' X' C' n' × ((lab : ℕ → Label) → Distinct lab → (ρ : Asg) → Fits (tab_of lab W P) T ρ → Holds ρ x (tab_of lab W P k) → ⊥)
+Holding W P T X C n x k T' X' C' (Err (Full n')) = Step W T X C n T' X' C' n' × Filled X C n'
 
 -- the entries of the trail from i on up to n may be settled
 pub record CanSettle (W : List Word) (P T X C : List ℕ) (i n : ℕ) : Type 0 where
@@ -98,7 +98,7 @@ pub record Settled (W : List Word) (P T X C : List ℕ) (i n : ℕ) (T' X' C' : 
   pub apps : (m : ℕ) → Apps T m → OldApps C i n m → Apps T' m
   pub means : (lab : ℕ → Label) (ρ : Asg) → (Fits (tab_of lab W P) T ρ × Pend (tab_of lab W P) X C i n ρ) ↔ Fits (tab_of lab W P) T' ρ
 
-abbrev pub Settling : List Word → List ℕ → List ℕ → List ℕ → List ℕ → ℕ → ℕ → List ℕ → List ℕ → List ℕ → Went → Type 0
-Settling W P T X C i n T' X' C' (On n') = Settled W P T X C i n T' X' C' n'
-Settling W P T X C i n T' X' C' (Clash n') = Step W T X C n T' X' C' n' × ((lab : ℕ → Label) → Distinct lab → (ρ : Asg) → Fits (tab_of lab W P) T ρ → Pend (tab_of lab W P) X C i n ρ → ⊥)
-Settling W P T X C i n T' X' C' (Full n') = Step W T X C n T' X' C' n' × Filled X C n'
+abbrev pub Settling : List Word → List ℕ → List ℕ → List ℕ → List ℕ → ℕ → ℕ → List ℕ → List ℕ → List ℕ → Result ℕ Stop → Type 0
+Settling W P T X C i n T' X' C' (Ok n') = Settled W P T X C i n T' X' C' n'
+Settling W P T X C i n T' X' C' (Err (Clash n')) = Step W T X C n T' X' C' n' × ((lab : ℕ → Label) → Distinct lab → (ρ : Asg) → Fits (tab_of lab W P) T ρ → Pend (tab_of lab W P) X C i n ρ → ⊥)
+Settling W P T X C i n T' X' C' (Err (Full n')) = Step W T X C n T' X' C' n' × Filled X C n'

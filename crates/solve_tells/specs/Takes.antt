@@ -1,5 +1,5 @@
 -- An equation or an application taken into the tables: what is asked, and what is handed back. Assumes nothing.
-use Rattle.std.specs.Prelude.{◌↔◌, List, ℕ, ◌≤◌, ◌<◌, length}
+use Rattle.std.specs.Prelude.{Result, Ok, Err, ◌↔◌, List, ℕ, ◌≤◌, ◌<◌, length}
 use Rattle.constraint.specs.Tree.{Label}
 use Rattle.constraint.specs.Constraint.{Asg, In}
 use Rattle.mem_words.specs.declared.Word.{Word}
@@ -7,8 +7,8 @@ use Rattle.solve_classes.specs.Means.{Fits, Apps}
 use Rattle.solve_fields.specs.Read.{tab_of, Distinct}
 use Rattle.solve_tells.specs.Reach.{vars_of}
 use Rattle.solve_tells.specs.Steps.{Step, Sound, Filled}
-use Rattle.solve_tells.specs.declared.Went.{Went}
-use Rattle.solve_tells.specs.declared.Went.TheVariants.{On, Clash, Full}
+use Rattle.solve_tells.specs.declared.Stop.{Stop}
+use Rattle.solve_tells.specs.declared.Stop.TheVariants.{Clash, Full}
 
 -- x = y may be told
 pub record CanEquate (W : List Word) (P T X C : List ℕ) (n x y : ℕ) : Type 0 where
@@ -35,7 +35,7 @@ pub record Took (W : List Word) (P T X C : List ℕ) (n b : ℕ) (Q : (ℕ → L
   pub apps : (m : ℕ) → b ≤ m → Apps T m → Apps T' m
   pub means : (lab : ℕ → Label) (ρ : Asg) → (Fits (tab_of lab W P) T ρ × Q lab ρ) ↔ Fits (tab_of lab W P) T' ρ
 
-abbrev pub Taking : List Word → List ℕ → List ℕ → List ℕ → List ℕ → ℕ → ℕ → ((ℕ → Label) → Asg → Type 0) → List ℕ → List ℕ → List ℕ → Went → Type 0
-Taking W P T X C n b Q T' X' C' (On n') = Took W P T X C n b Q T' X' C' n'
-Taking W P T X C n b Q T' X' C' (Clash n') = Step W T X C n T' X' C' n' × ((lab : ℕ → Label) → Distinct lab → (ρ : Asg) → Fits (tab_of lab W P) T ρ → Q lab ρ → ⊥)
-Taking W P T X C n b Q T' X' C' (Full n') = Step W T X C n T' X' C' n' × Filled X C n'
+abbrev pub Taking : List Word → List ℕ → List ℕ → List ℕ → List ℕ → ℕ → ℕ → ((ℕ → Label) → Asg → Type 0) → List ℕ → List ℕ → List ℕ → Result ℕ Stop → Type 0
+Taking W P T X C n b Q T' X' C' (Ok n') = Took W P T X C n b Q T' X' C' n'
+Taking W P T X C n b Q T' X' C' (Err (Clash n')) = Step W T X C n T' X' C' n' × ((lab : ℕ → Label) → Distinct lab → (ρ : Asg) → Fits (tab_of lab W P) T ρ → Q lab ρ → ⊥)
+Taking W P T X C n b Q T' X' C' (Err (Full n')) = Step W T X C n T' X' C' n' × Filled X C n'

@@ -1,5 +1,5 @@
 -- Telling constraints to the tables: what is asked, and what is handed back. Assumes nothing.
-use Rattle.std.specs.Prelude.{◌≡◌, ◌↔◌, ◌⊎◌, List, [], ◌∷◌, ◌++◌, ℕ, zero, suc, ◌+◌, ◌-◌, ◌≤◌, ◌<◌, length, get_or, drop}
+use Rattle.std.specs.Prelude.{Result, Ok, Err, ◌≡◌, ◌↔◌, ◌⊎◌, List, [], ◌∷◌, ◌++◌, ℕ, zero, suc, ◌+◌, ◌-◌, ◌≤◌, ◌<◌, length, get_or, drop}
 use Rattle.std.proofs.Math.Logic.{ite}
 use Rattle.std.proofs.Math.Decide.{ℕ_discrete}
 use Rattle.constraint.specs.Tree.{Label}
@@ -11,6 +11,8 @@ use Rattle.solve_classes.specs.Weights.{weights}
 use Rattle.solve_fields.specs.Read.{tab_of, Distinct, told, starts}
 use Rattle.solve_tells.specs.Reach.{vars_of}
 use Rattle.solve_tells.specs.Steps.{Step, Sound, Filled}
+use Rattle.solve_tells.specs.declared.Stop.{Stop}
+use Rattle.solve_tells.specs.declared.Stop.TheVariants.{Clash, Full}
 use Rattle.solve_tells.specs.declared.Told.{Told}
 use Rattle.solve_tells.specs.declared.Told.TheVariants.{All, Failed, NoRoom}
 use Rattle.solve_begins.specs.Begins.{begins_of}
@@ -85,6 +87,12 @@ abbrev pub Telling : List Word → List ℕ → List ℕ → List ℕ → List �
 Telling W P T X C n a q S P' T' X' C' (All n' a') = Done W P T X C n a q S P' T' X' C' n' a'
 Telling W P T X C n a q S P' T' X' C' (Failed n' a') = Clashed W P T X C n a S P' T' X' C' n' a'
 Telling W P T X C n a q S P' T' X' C' (NoRoom n' a') = Stopped W P T X C n a q P' T' X' C' n' a'
+
+-- the end of a step as that of telling, where a applications are told then
+abbrev pub told_by : Result ℕ Stop → ℕ → Told
+told_by (Ok n) a = All n a
+told_by (Err (Clash n)) a = Failed n a
+told_by (Err (Full n)) a = NoRoom n a
 
 -- a word that is told
 pub record CanOne (W : List Word) (P T X C : List ℕ) (n a i : ℕ) : Type 0 where

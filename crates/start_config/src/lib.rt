@@ -24,10 +24,8 @@ fn variables(out: &mut [u8], k: usize, v: usize)
     requires { CanFrees (words out.old) k v }
     ensures { Grown (words out.old) k (frees v) (words out.new) (k + v) }
 {
-    let mut i = 0;
-    while i < v {
+    for i in 0..v {
         mem_put::put(out, k + i, Word::Free(i));
-        i += 1;
     }
 }
 

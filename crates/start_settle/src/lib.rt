@@ -4,9 +4,12 @@
 ghost use Rattle.std.specs.Prelude.{take};
 ghost use Rattle.mem_numbers.specs.Numbers.{shorts};
 ghost use Rattle.mem_words.specs.Words.{words};
+ghost use Rattle.refusals.specs.Refusals.{refused_with};
 ghost use Rattle.start_settle.specs.Settled.{CanSettle, Settled};
 
-// As `start_lay::lay`; `w` is the length of the working slice. Answers the refusal, or 0.
+use refusals::Refusal;
+
+// As `start_lay::lay`; `w` is the length of the working slice. Answers the refusal, if any.
 pub fn settle(
     cells: &[u8],
     m: usize,
@@ -18,21 +21,21 @@ pub fn settle(
     b: usize,
     store: &mut [u8],
     w: usize,
-) -> usize
+) -> Result<(), Refusal>
     requires { CanSettle cells.now rules.now (shorts order.now) (words goal.now) m a v b }
-    ensures { Settled store.old cells.now rules.now (shorts order.now) (take b (words goal.now)) m a v w store.new result }
+    ensures { Settled store.old cells.now rules.now (shorts order.now) (take b (words goal.now)) m a v w store.new (refused_with result) }
 {
     if store.len() < 245853 {
-        return 8;
+        return Err(Refusal::TooShort);
     }
     if w < 524288 {
-        return 8;
+        return Err(Refusal::TooShort);
     }
     let e = 3 * b;
     let p = store_parts::parts(&goal[..e]);
     if 2046 < p + v {
-        return 15;
+        return Err(Refusal::TooManyParts);
     }
     start_lay::lay(cells, m, rules, a, order, v, goal, b, store);
-    0
+    Ok(())
 }

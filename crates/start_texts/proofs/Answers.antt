@@ -15,8 +15,8 @@ use Rattle.read_inputs.specs.declared.Inputs.TheVariants.{Read, Refused, Short}
 use Rattle.read_inputs.specs.Inputs.{InputsTo, Loaded, Ample}
 use Rattle.store_texts.proofs.Queries.{query_short}
 use Rattle.refusals.specs.declared.Refusal.{Refusal}
-use Rattle.refusals.specs.declared.Refusal.TheVariants.{TooLong, NotOfGrammar, TooMany, Twice, NotDefined, NotBound, TwoOperators, TooShort, NotWellFormed, NoRule, NoPlace, OtherKind, ConditionFalse, NoFreshNumber, TooManyParts, NoAnswer, AnswerTooLong, NotALine}
 use Rattle.refusals.specs.Refusals.{number_of}
+use Rattle.refusals.proofs.Numbers.{numbered}
 use Rattle.store_form.specs.Sizes.{most_nodes}
 use Rattle.start_outcome.specs.Outcome.{StoreAfter, StartTo}
 use Rattle.start_outcome.proofs.Settling.{program_refused, query_refused}
@@ -26,27 +26,7 @@ pub few_cells : (text query N M : List ℕ) (P : Program) (q : Query) → length
 unfolding most_nodes
 few_cells text query N M P q e h k r = omega (arith, query_short P query q r, e, h, k)
 
--- A refusal of a text is the start's, and leaves the store. A refusal has a number from 1 on.
-numbered : (f : Refusal) → (m : ℕ) × (number_of f ≡ suc m)
-numbered TooLong = (0, refl)
-numbered NotOfGrammar = (1, refl)
-numbered TooMany = (2, refl)
-numbered Twice = (3, refl)
-numbered NotDefined = (4, refl)
-numbered NotBound = (5, refl)
-numbered TwoOperators = (6, refl)
-numbered TooShort = (7, refl)
-numbered NotWellFormed = (8, refl)
-numbered NoRule = (9, refl)
-numbered NoPlace = (10, refl)
-numbered OtherKind = (11, refl)
-numbered ConditionFalse = (12, refl)
-numbered NoFreshNumber = (13, refl)
-numbered TooManyParts = (14, refl)
-numbered NoAnswer = (15, refl)
-numbered AnswerTooLong = (16, refl)
-numbered NotALine = (17, refl)
-
+-- A refusal of a text is the start's, and leaves the store.
 pub refused_text : (text query L : List ℕ) (w n : ℕ) (f : Refusal) → n ≡ number_of f
     → (read_program text ≡ refused (number_of f)) ⊎ ((P : Program) × (read_program text ≡ ok P) × (read_query P query ≡ refused (number_of f)))
     → StartTo text query L w L n

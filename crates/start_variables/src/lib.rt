@@ -9,10 +9,8 @@ pub fn widen(order: &[u8], n: usize, out: &mut [u8])
     requires { CanWiden (shorts order.now) n (triples out.old) }
     ensures { Widened (shorts order.now) n (triples out.new) }
 {
-    let mut i = 0;
-    while i < n {
-        let v = mem_numbers::short_get(order, i);
-        mem_numbers::triple_put(out, i, v);
-        i += 1;
+    for i in 0..n {
+        let v = mem_numbers::get::<2>(order, i);
+        mem_numbers::put::<3>(out, i, v);
     }
 }

@@ -1,6 +1,6 @@
 -- What is decided of a step on the words W of a configuration and D of a program: the row of its rule, whether its argument is as it
 -- must be, its condition, and its refusal or where its place stands. Assumes nothing.
-use Rattle.std.specs.Prelude.{◌≡◌, Bool, true, ◌&&◌, List, ℕ, ◌<◌, eqb, ltb, length}
+use Rattle.std.specs.Prelude.{◌≡◌, Bool, true, ◌&&◌, List, ℕ, ◌<◌, eqb, ltb, length, Result, Ok, Err}
 use Rattle.std.proofs.Math.Option.{Option, some, none}
 use Rattle.akl.specs.Base.{is_some, if}
 use Rattle.akl.specs.Places.{Place}
@@ -9,13 +9,13 @@ use Rattle.akl.specs.Rules.{effect}
 use Rattle.akl.specs.StepsText.{Step}
 use Rattle.akl.specs.Step.{splitting, argument_stable}
 use Rattle.mem_words.specs.declared.Word.{Word}
+use Rattle.refusals.specs.declared.Refusal.{Refusal}
+use Rattle.refusals.specs.Refusals.{number_of}
 use Rattle.store_form.specs.State.{State, program_of, config_of}
 use Rattle.store_words.specs.Contexts.{place_at}
 use Rattle.step_meant.specs.Meant.{Meant}
 use Rattle.step_meant.specs.Asked.{Takes}
 use Rattle.step_meant.specs.Deciding.{Refuses, Goes}
-use Rattle.step_decide.specs.declared.Decision.{Decision}
-use Rattle.step_decide.specs.declared.Decision.TheVariants.{No, At}
 
 -- the number of the kind of place that a row's rule takes; 10 if there is no row
 abbrev pub row_takes : Option Row → ℕ
@@ -48,6 +48,6 @@ pub record HasCondition (W D : List Word) (r a i : ℕ) (b : Bool) : Type 0 wher
   pub right : (s : State) (pl : Place) → Meant W D s → Takes s W r pl i → b ≡ is_some (effect (program_of s) (config_of s).next r pl) && argument_stable (program_of s) (config_of s) r pl a
 
 -- the step is refused, or its place stands at i and only the limits are left to be tested
-abbrev pub Decided : List Word → List Word → Step → Decision → Type 0
-Decided W D k (No x) = (0 < x) × Refuses W D k x
-Decided W D k (At i) = Goes W D k i × (i ≡ place_at W k.place) × (i < length W)
+abbrev pub Decided : List Word → List Word → Step → Result ℕ Refusal → Type 0
+Decided W D k (Err x) = (0 < number_of x) × Refuses W D k (number_of x)
+Decided W D k (Ok i) = Goes W D k i × (i ≡ place_at W k.place) × (i < length W)

@@ -11,15 +11,9 @@ ghost use Rattle.step_meant.specs.Deciding.{step_of};
 ghost use Rattle.step_decide.specs.Decided.{row_takes, argument_there, CanDecide, CanTake, AsksStable, HasCondition, Decided};
 
 use read_steps::Place;
+use refusals::Refusal;
 use rule_places::Finger;
 use rule_table::Row;
-
-// A step's refusal, or where its place stands.
-#[derive(Clone, Copy)]
-pub enum Decision {
-    No(usize),
-    At(usize),
-}
 
 // The number of the kind of place that rule `r` takes; 10 if there is no such rule.
 fn kind_taken(r: usize) -> usize
@@ -77,26 +71,34 @@ fn has_condition(t: &[u8], d: &[u8], w: &mut [u8], r: usize, a: usize, i: usize)
 
 // Rule `r` at the place `p` with the argument `a`, on a configuration's words `t` and a program's words `d`. The place is looked for from
 // the finger on.
-pub fn decide(t: &[u8], d: &[u8], w: &mut [u8], f: Finger, r: usize, p: Place, a: usize) -> Decision
+pub fn decide(
+    t: &[u8],
+    d: &[u8],
+    w: &mut [u8],
+    f: Finger,
+    r: usize,
+    p: Place,
+    a: usize,
+) -> Result<usize, Refusal>
     requires { Idle w.old × CanDecide (words t.now) (words d.now) × Points (words t.now) f }
     ensures { Decided (words t.now) (words d.now) (step_of r p.0 a) result × Idle w.new }
 {
     let n = kind_taken(r);
     if n == 10 {
-        return Decision::No(10); // no rule
+        return Err(Refusal::NoRule);
     }
     let i = rule_places::position_from(t, f, p);
     if i == mem_words::count(t) {
-        return Decision::No(11); // no place
+        return Err(Refusal::NoPlace); // nothing stands there
     }
     if !argument_fits(t, r, a) {
-        return Decision::No(11);
+        return Err(Refusal::NoPlace); // the argument is not as it must be
     }
     if rule_kinds::kind(t, i) != n {
-        return Decision::No(12); // a place of another kind
+        return Err(Refusal::OtherKind);
     }
     if !has_condition(t, d, w, r, a, i) {
-        return Decision::No(13);
+        return Err(Refusal::ConditionFalse);
     }
-    Decision::At(i)
+    Ok(i)
 }

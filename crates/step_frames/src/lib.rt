@@ -10,7 +10,7 @@ pub fn get(w: &[u8], i: usize) -> usize
     requires { CanRead w.now 32768 i }
     ensures { Got (frames_of w.now) i 65536 result }
 {
-    mem_parts::get2(w, 401408, 466944, i)
+    mem_parts::get::<2>(w, 401408, 466944, i)
 }
 
 // Makes it `v`.
@@ -18,7 +18,7 @@ fn put(w: &mut [u8], i: usize, v: usize)
     requires { CanWrite w.old 32768 i 65536 v }
     ensures { PutSlot w.old i v w.new }
 {
-    mem_parts::put2(w, 401408, 466944, i, v);
+    mem_parts::put::<2>(w, 401408, 466944, i, v);
 }
 
 // Puts an entry at `k`: how many brackets are open inside the and-box around, and the mark before the one that is entered.

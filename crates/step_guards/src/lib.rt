@@ -10,75 +10,69 @@ ghost use Rattle.step_guards.specs.Guards.{GuardsRest, Operators, CanAskOwn, Own
 
 use mem_sorts::Kind;
 use rule_tells::Around;
-use step_turn::Next;
+use step_turn::{Mark, Stand};
 
 // Whether no choice-box with the operator `->` or `|` begins at or inside the goal at `g`.
 fn unguarded(t: &[u8], g: usize) -> bool
     ensures { Operators (words t.now) g result }
 {
     let e = rule_close::end_of(t, g);
-    let mut j = g;
-    while j <= e {
+    for j in g..=e {
         if rule_shapes::is_kind(t, j, Kind::Cond) {
             return false;
         }
         if rule_shapes::is_kind(t, j, Kind::Commit) {
             return false;
         }
-        j += 1;
     }
     true
 }
 
-// Whether the store of the and-box at `j`, the innermost of `k` and told last, is quiet for its environment, with its own locals. They
-// are marked for the question alone.
-fn own_quiet(t: &[u8], w: &mut [u8], j: usize, k: usize, used: usize, n: usize, a: usize) -> bool
-    requires { CanAskOwn (words t.now) w.old j k used n a }
-    ensures { OwnAsked (words t.now) w.old j k used n a w.new result }
+// Whether the store of the and-box at `j`, the innermost that is open and told last, is quiet for its environment, with its own locals.
+// They are marked for the question alone.
+fn own_quiet(t: &[u8], w: &mut [u8], j: usize, at: Stand) -> bool
+    requires { CanAskOwn (words t.now) w.old j at.boxes at.mark.used at.mark.trail at.mark.applications }
+    ensures { OwnAsked (words t.now) w.old j at.boxes at.mark.used at.mark.trail at.mark.applications w.new result }
 {
-    let i = 4 * (k - 1) + 2;
+    let i = 4 * (at.boxes - 1) + 2;
     let from = step_frames::get(w, i); // the trail before the box
     rule_locals::give_inside(t, w, j, 1);
-    let r = step_quiet::silent(w, used, n, a, from);
+    let r = step_quiet::silent(w, at.mark.used, at.mark.trail, at.mark.applications, from);
     rule_locals::give_inside(t, w, j, 0);
     r
 }
 
-// Goes over the words of the goal at `g`, whose environment was told up to the mark (`u`, `n`, `a`).
-fn walk(t: &[u8], w: &mut [u8], g: usize, u: usize, n: usize, a: usize) -> bool
-    requires { CanWalk (words t.now) g × Asks (words t.now) g n w.old g 0 0 u n a 0 }
+// Goes over the words of the goal at `g`, whose environment was told up to the mark `environment`.
+fn walk(t: &[u8], w: &mut [u8], g: usize, environment: Mark) -> bool
+    requires { CanWalk (words t.now) g × Asks (words t.now) g environment.trail w.old g 0 0 environment.used environment.trail environment.applications 0 }
     ensures { GuardsRest (words t.now) g result × Idle w.new }
 {
     let e = rule_close::end_of(t, g);
     let mut j = g;
-    let mut d: usize = 0;
-    let mut k: usize = 0;
-    let mut x = u;
-    let mut y = n;
-    let mut z = a;
+    let mut at = Stand {
+        depth: 0,
+        boxes: 0,
+        mark: environment,
+    };
     let mut h: usize = 0;
     while j < e {
         let v = step_waits::waits(t, w, g, j, h);
-        let Next::On(d1, k1, x1, y1, z1) = step_turn::turn(t, w, j, d, k, x, y, z) else {
+        let Some(next) = step_turn::turn(t, w, j, at) else {
             mem_parts::zero(w, 16384, 212992);
             return false; // the box at j has no solution
         };
         h = step_path::pass(t, w, j, h);
         let i = j;
-        d = d1;
-        k = k1;
-        x = x1;
-        y = y1;
-        z = z1;
+        at = next;
         j += 1;
         if v {
-            if own_quiet(t, w, i, k, x, y, z) {
-                work_ranges::back(w, y, 0);
+            if own_quiet(t, w, i, at) {
+                work_ranges::back(w, at.mark.trail, 0);
                 return false; // the rule applies
             }
         }
     }
-    work_ranges::back(w, y, 0); // the environment
+    work_ranges::back(w, at.mark.trail, 0); // the environment
     true
 }
 
@@ -92,7 +86,14 @@ pub fn guards_rest(t: &[u8], w: &mut [u8], g: usize) -> bool
     }
     let r = rule_tells::tell_from(t, w, 0, g, 0, 0, 0);
     match r {
-        Around::All(u, n, a) => walk(t, w, g, u, n, a),
+        Around::All(used, trail, applications) => {
+            let environment = Mark {
+                used,
+                trail,
+                applications,
+            };
+            walk(t, w, g, environment)
+        }
         Around::Failed(m) => {
             work_ranges::back(w, m, 0);
             step_walk::boxless(t, g) // no box has a solution with its environment

@@ -15,7 +15,7 @@ pub fn get(w: &[u8], i: usize) -> usize
     requires { CanRead w.now 28672 i }
     ensures { Got (path_of w.now) i 65536 result }
 {
-    mem_parts::get2(w, 466944, 524288, i)
+    mem_parts::get::<2>(w, 466944, 524288, i)
 }
 
 // Makes it `v`.
@@ -23,21 +23,13 @@ fn put(w: &mut [u8], i: usize, v: usize)
     requires { CanWrite w.old 28672 i 65536 v }
     ensures { PutPlace w.old i v w.new }
 {
-    mem_parts::put2(w, 466944, 524288, i, v);
+    mem_parts::put::<2>(w, 466944, 524288, i, v);
 }
 
 fn is_bracket(x: Word) -> bool
     ensures { result ≡ opens x 0 }
 {
-    match x {
-        Word::End => false,
-        Word::Free(_) => false,
-        Word::Level(_) => false,
-        Word::Num(_) => false,
-        Word::Place(_) => true,
-        Word::Inner(_) => true,
-        Word::Bad => false,
-    }
+    matches!(x, Word::Place(_) | Word::Inner(_))
 }
 
 // Goes over the word at `j`, where `h` brackets are open; so many are behind it.

@@ -1,5 +1,5 @@
 -- The bound of the parts, from a store to what a step built and left of it. Assumes nothing.
-use mathlib.Core.Path.{◌≡◌, ap, sym, ◌∙◌}
+use mathlib.Core.Path.{◌≡◌, refl, ap, sym, ◌∙◌}
 use mathlib.Core.List.{List}
 use mathlib.Core.Option.{some, some-injective}
 use Prim.Native.Nat.{ℕ, ◌+◌, ◌≤◌, ◌<◌}
@@ -37,10 +37,6 @@ at_most_any b = record {
       h.fit;
 }
 
--- a step that is refused carries nothing
-pub none_carried : (b : List ℕ) (x p : ℕ) → 0 < x → Carried b x p
-none_carried b x p h = record { most = λ z. absurd (omega (arith, h, z)); limit = λ z. absurd (omega (arith, h, z)) }
-
 module _ (b : List ℕ) (W D : List Word) (next : ℕ) (v : Viewed b W D next) (k : Step) (i f : ℕ) (g : Goes W D k i) (c : Capped (fresh_words W k.rule i) f) (h : next + f ≤ 65535)
     (n : ℕ) (S : List ℕ) (t : Built 28672 (effect_words W D k.rule i next) n (words S)) (o : HoldsState b) where
   -- the words that were built, by the state's next number
@@ -75,13 +71,13 @@ module _ (b : List ℕ) (W D : List Word) (next : ℕ) (v : Viewed b W D next) (
   bound_fits u q w (unknown z) y l = absurd (omega (arith, y, z))
 
   -- what is left has the parts that were built
-  pub carried : (B : List ℕ) (x p : ℕ) → Settled b S n (next + f) B x → Written S n x p → Carried B x p
-  carried B x p y w = record {
-    most = λ z. record {
+  pub carried : (B : List ℕ) (p : ℕ) → Settled b S n (next + f) B 0 → Written S n p → Carried B p
+  carried B p y w = record {
+    most = record {
       few = λ s e.
-          let q = settled_held b W D next v k i f g c h n S t B x z y o.state o.holds in
+          let q = settled_held b W D next v k i f g c h n S t B 0 refl y o.state o.holds in
           let same : then b W D next v k i f g c h n S t o.state o.holds ≡ s = some-injective (then b W D next v k i f g c h n S t o.state o.holds) s (sym q.0 ∙ e) in
-          omega (arith, w.few z, ap (λ (d : State). parts (config_of d).root) same, parts_next b W D next v k i f g c h n S t o.state o.holds q.1);
+          omega (arith, w.few, ap (λ (d : State). parts (config_of d).root) same, parts_next b W D next v k i f g c h n S t o.state o.holds q.1);
     };
-    limit = λ z. w.limit z;
+    limit = w.limit;
   }

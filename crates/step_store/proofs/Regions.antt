@@ -25,8 +25,6 @@ use Rattle.rule_rewrite.specs.Rewriting.{effect_words, fresh_words}
 use Rattle.step_parts.specs.Bounds.{CanBound, Bound}
 use Rattle.step_meant.specs.Deciding.{step_of, Refuses, Goes, HoldsState}
 use Rattle.step_decide.specs.Decided.{CanDecide, Decided}
-use Rattle.step_decide.specs.declared.Decision.{Decision}
-use Rattle.step_decide.specs.declared.Decision.TheVariants.{No, At}
 use Rattle.step_decide.proofs.Places.{stands_within}
 use Rattle.step_store.specs.Regions.{config_part, program_part, Counts, CanRewrite, WasBuilt}
 use Rattle.store_words.specs.Contexts.{place_at}
@@ -34,7 +32,7 @@ use Rattle.rule_places.specs.declared.Finger.{Finger}
 use Rattle.rule_places.specs.Fingers.{Points}
 use Rattle.step_finger.specs.Following.{Follows}
 use Rattle.step_store.specs.Bounds.{AtMost, Carried}
-use Rattle.step_store.specs.Pointed.{Pointed, Left}
+use Rattle.step_store.specs.Pointed.{Pointed}
 use Rattle.step_store.proofs.Done.{Viewed, viewed, counted}
 use Rattle.step_store.proofs.Bounded.{can_bound, bound_fits, carried}
 use Rattle.step_store.proofs.Pointing.{left_pointed}
@@ -75,16 +73,6 @@ module _ {b : List ℕ} {n m : ℕ} (c : Counts b n m) where
   next_low next e =
       let p = held_begins most_parts (omega arith) b c.held.state c.held.holds in
       omega (arith, e, next_told most_parts (omega arith) c.held.state p.1 _ b p.0, p.1.next)
-
--- what was decided
-pub decided_no : (W D : List Word) (k : Step) (d : Decision) (x : ℕ) → d ≡ No x → Decided W D k d → (0 < x) × Refuses W D k x
-decided_no W D k d x e h = subst (Decided W D k) e h
-
-pub decided_at : (W D : List Word) (k : Step) (d : Decision) (i : ℕ) → d ≡ At i → Decided W D k d → Goes W D k i
-decided_at W D k d i e h = (subst (Decided W D k) e h).0
-
-pub decided_place : (W D : List Word) (k : Step) (d : Decision) (i : ℕ) → d ≡ At i → Decided W D k d → (i ≡ place_at W k.place) × (i < length W)
-decided_place W D k d i e h = let q = subst (Decided W D k) e h in (q.1, q.2)
 
 -- the part in which words were built came back
 pub built_back : (a e : ℕ) (L Y : List ℕ) (cap x : ℕ) (X : List Word) → a ≤ e → e ≤ length L → length Y ≡ length (cut a e L) → Built cap X x (words Y) → Built cap X x (words (cut a e (put_mid a (e - a) L Y)))
@@ -139,11 +127,11 @@ module _ {b : List ℕ} {n m : ℕ} (c : Counts b n m) (r p a i : ℕ) (g : Goes
       fit = λ y z. bound_fits b (config_part b n) (program_part b m) next (parts_viewed c next e) (step_of r p a) i f g k h x S t.built c.held u q most d y z;
     }
 
-    pub settled_left : (B : List ℕ) (y : ℕ) (z : Finger) → Settled b S x (next + f) B y → Follows (config_part b n) r i z → Left B y z
-    settled_left B y z s d = left_pointed b (config_part b n) (program_part b m) next (parts_viewed c next e) (step_of r p a) i f g k h x S t.built c.held B y z s d
+    pub settled_left : (B : List ℕ) (z : Finger) → Settled b S x (next + f) B 0 → Follows (config_part b n) r i z → Pointed B z
+    settled_left B z s d = left_pointed b (config_part b n) (program_part b m) next (parts_viewed c next e) (step_of r p a) i f g k h x S t.built c.held B z s d
 
-    pub settled_carried : (B : List ℕ) (y q : ℕ) → Settled b S x (next + f) B y → Written S x y q → Carried B y q
-    settled_carried B y q s d = carried b (config_part b n) (program_part b m) next (parts_viewed c next e) (step_of r p a) i f g k h x S t.built c.held B y q s d
+    pub settled_carried : (B : List ℕ) (q : ℕ) → Settled b S x (next + f) B 0 → Written S x q → Carried B q
+    settled_carried B q s d = carried b (config_part b n) (program_part b m) next (parts_viewed c next e) (step_of r p a) i f g k h x S t.built c.held B q s d
 
   pub can_rewrite : (next f : ℕ) → next ≡ next_in b → Capped (fresh_words (config_part b n) r i) f → next + f ≤ 65535 → CanRewrite (config_part b n) r i next
   can_rewrite next f e k h =

@@ -9,7 +9,7 @@ use Rattle.store_calls.specs.Outcomes.{held}
 pub record AtMost (b : List ℕ) (u : ℕ) : Type 0 where
   pub few : (s : State) → held most_parts b ≡ some s → parts (config_of s).root ≤ u
 
--- a step that handed back x left b, with at most p parts if it was accepted
-pub record Carried (b : List ℕ) (x p : ℕ) : Type 0 where
-  pub most : x ≡ 0 → AtMost b p
-  pub limit : x ≡ 0 → p ≤ 2048
+-- a step that was accepted left b, with at most p parts
+pub record Carried (b : List ℕ) (p : ℕ) : Type 0 where
+  pub most : AtMost b p
+  pub limit : p ≤ 2048

@@ -10,7 +10,3 @@ use Rattle.store_calls.specs.Outcomes.{held}
 
 pub record Pointed (b : List ℕ) (f : Finger) : Type 0 where
   pub there : (s : State) → held most_parts b ≡ some s → Points (config_words s) f
-
--- a step that handed back x left b, with the finger f in it if it was accepted
-pub record Left (b : List ℕ) (x : ℕ) (f : Finger) : Type 0 where
-  pub points : x ≡ 0 → Pointed b f

@@ -1,7 +1,7 @@
-// A step on a store that holds a state: what it is refused with, or 0 and the store with the next configuration.
+// A step on a store that holds a state: what it is refused with, or the store with the next configuration.
 #![tactic(auto)]
 
-ghost use Rattle.std.specs.Prelude.{◌≡◌, ◌+◌, ◌*◌, ◌<◌, ◌≤◌, length};
+ghost use Rattle.std.specs.Prelude.{IfOk, ◌≡◌, ◌+◌, ◌*◌, ◌<◌, ◌≤◌, length};
 ghost use Rattle.mem_words.specs.Words.{words};
 ghost use Rattle.mem_parts.specs.Parts.{cut, Outside};
 ghost use Rattle.store_commit.specs.Settled.{CanSettle, Settled, Written};
@@ -17,12 +17,12 @@ ghost use Rattle.step_decide.specs.Decided.{Decided};
 ghost use Rattle.step_parts.specs.Bounds.{CanBound, Bound};
 ghost use Rattle.step_store.specs.Regions.{config_part, program_part, Counts, CanRewrite, WasBuilt};
 ghost use Rattle.step_store.specs.Bounds.{AtMost, Carried};
-ghost use Rattle.step_store.specs.Pointed.{Pointed, Left};
+ghost use Rattle.step_store.specs.Pointed.{Pointed};
+ghost use Rattle.refusals.specs.Refusals.{refused_with};
 
 use read_steps::Place;
+use refusals::Refusal;
 use rule_places::Finger;
-use step_decide::Decision;
-use store_commit::Settlement;
 
 // What is decided of the step, on the regions of the store.
 fn decision(
@@ -34,7 +34,7 @@ fn decision(
     r: usize,
     p: Place,
     a: usize,
-) -> Decision
+) -> Result<usize, Refusal>
     requires { Idle w.old × Counts b.now n m × Points (config_part b.now n) near }
     ensures { Decided (config_part b.now n) (program_part b.now m) (step_of r p.0 a) result × Idle w.new }
 {
@@ -100,9 +100,9 @@ fn settle_from(
     next: usize,
     n: usize,
     most: usize,
-) -> Settlement
+) -> Result<usize, Refusal>
     requires { CanSettle b.old (cut lo hi w.now) x n most × (lo ≤ hi) × (hi ≤ length w.now) }
-    ensures { Settled b.old (cut lo hi w.now) x next b.new result.answer × Written (cut lo hi w.now) x result.answer result.parts }
+    ensures { Settled b.old (cut lo hi w.now) x next b.new (refused_with result) × IfOk result (Written (cut lo hi w.now) x) }
 {
     store_commit::settle(b, &w[lo..hi], x, next, n, most)
 }
@@ -116,16 +116,15 @@ fn finger_in(b: &[u8], n: usize, near: Finger, r: usize, i: usize, p: Place) -> 
     step_finger::after(&b[159837..e], near, r, i, p)
 }
 
-// What a step answers, and where it is 0 an upper bound of the parts of what it left and a finger in it.
+// What a step that is accepted hands back: an upper bound of the parts of what it left, and a finger in it.
 #[derive(Clone, Copy)]
 pub struct Stepped {
-    pub answer: usize,
     pub parts: usize,
     pub finger: Finger,
 }
 
-// Rule `r` at the place `p` with the argument `a`, on a store with at most `u` parts and a finger in its configuration. Answers the refusal,
-// 10 to 15; or 0, and `b` is the store after the step.
+// Rule `r` at the place `p` with the argument `a`, on a store with at most `u` parts and a finger in its configuration. Refused with 10 to
+// 15; else `b` is the store after the step.
 pub fn step(
     b: &mut [u8],
     w: &mut [u8],
@@ -134,38 +133,21 @@ pub fn step(
     r: usize,
     p: Place,
     a: usize,
-) -> Stepped
+) -> Result<Stepped, Refusal>
     requires { (245853 ≤ length b.old) × Idle w.old × HoldsState b.old × AtMost b.old u × (u ≤ 2048) × Pointed b.old near }
-    ensures { StepDone b.old (step_of r p.0 a) result.answer b.new × Idle w.new × Carried b.new result.answer result.parts × Left b.new result.answer result.finger }
+    ensures { StepDone b.old (step_of r p.0 a) (refused_with result) b.new × Idle w.new × IfOk result (λ s. Carried b.new s.parts × Pointed b.new s.finger) }
 {
     let n = store_views::config_count(b);
     let m = store_views::program_count(b);
     let next = store_views::next_number(b);
-    let none = Finger { at: 0, before: 0 }; // what a refused step hands back
-    match decision(b, w, n, m, near, r, p, a) {
-        Decision::No(x) => Stepped {
-            answer: x,
-            parts: 0,
-            finger: none,
-        },
-        Decision::At(i) => {
-            let f = fresh(b, n, r, i);
-            if 65535 - next < f {
-                return Stepped {
-                    answer: 14,
-                    parts: 0,
-                    finger: none,
-                }; // too few numbers are left
-            }
-            let x = build(b, w, n, m, next, r, i);
-            let q = bound_from(w, 401408, 487424, x, u, r, i);
-            let finger = finger_in(b, n, near, r, i, p);
-            let s = settle_from(b, w, 401408, 487424, x, next + f, n, q);
-            Stepped {
-                answer: s.answer,
-                parts: s.parts,
-                finger: finger,
-            }
-        }
+    let i = decision(b, w, n, m, near, r, p, a)?;
+    let f = fresh(b, n, r, i);
+    if 65535 - next < f {
+        return Err(Refusal::NoFreshNumber); // too few numbers are left
     }
+    let x = build(b, w, n, m, next, r, i);
+    let q = bound_from(w, 401408, 487424, x, u, r, i);
+    let finger = finger_in(b, n, near, r, i, p);
+    let parts = settle_from(b, w, 401408, 487424, x, next + f, n, q)?;
+    Ok(Stepped { parts, finger })
 }

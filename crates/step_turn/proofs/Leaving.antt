@@ -10,7 +10,7 @@ use Rattle.work_marks.specs.Marks.{Mark, trail_at, apps_at, used_at, Returns}
 use Rattle.work_marks.proofs.Walking.{walk_returns, returns_can_back, walk_back}
 use Rattle.work_ranges.specs.Backs.{BackIn}
 use Rattle.step_frames.specs.Frames.{frames_of}
-use Rattle.step_turn.specs.declared.Next.TheVariants.{On}
+use Rattle.step_turn.specs.declared.Stand.{Stand}
 use Rattle.step_turn.specs.Leaving.{Over, CanLeave, Left}
 
 pub leave_first : {L : List ℕ} {k n : ℕ} → CanLeave L k n → CanRead L 32768 (4 * (k - 1))
@@ -31,18 +31,20 @@ back_can {L} {k} {n} m c e =
     let q : m ≡ trail_at c.below = e ∙ ap (λ (i : ℕ). get_or (frames_of L) i 0) (slot k c.height 2 c.some) ∙ c.over.frame.trail in
     (c.over.at.walk.laid, subst (CanBack (cells_of L) (vars_of L) (olds_of L) n) (sym q) (returns_can_back c.below L n (over_returns c.news c.below c.over)))
 
-pub left_of : {L X : List ℕ} {k n : ℕ} (d u m a : ℕ) → d ≡ get_or (frames_of L) (4 * (k - 1)) 0 → u ≡ get_or (frames_of L) (4 * (k - 1) + 1) 0 → m ≡ get_or (frames_of L) (4 * (k - 1) + 2) 0 → a ≡ get_or (frames_of L) (4 * (k - 1) + 3) 0 → BackIn L n m X → Left L k n X (On d (k - 1) u m a)
-left_of {L} {X} {k} {n} d u m a ed eu em ea b = record {
-  back = λ h d' news below e o.
+pub left_of : {L X : List ℕ} {k n : ℕ} (r : Stand) → r.depth ≡ get_or (frames_of L) (4 * (k - 1)) 0 → r.boxes ≡ k - 1 → r.mark.used ≡ get_or (frames_of L) (4 * (k - 1) + 1) 0 → r.mark.trail ≡ get_or (frames_of L) (4 * (k - 1) + 2) 0 → r.mark.applications ≡ get_or (frames_of L) (4 * (k - 1) + 3) 0 → BackIn L n r.mark.trail X → Left L k n X r
+left_of {L} {X} {k} {n} r ed eh eu em ea b = record {
+  back = λ h d news below e o.
       let z : 4 * (k - 1) ≡ 4 * h = omega (arith, e) in
       let f = o.frame in
-      let qd : d ≡ d' = ed ∙ ap (λ (i : ℕ). get_or (frames_of L) i 0) z ∙ f.depth in
-      let qh : k - 1 ≡ h = omega (arith, e) in
-      let qu : u ≡ used_at below = eu ∙ ap (λ (i : ℕ). get_or (frames_of L) i 0) (slot k h 1 e) ∙ f.words in
-      let qm : m ≡ trail_at below = em ∙ ap (λ (i : ℕ). get_or (frames_of L) i 0) (slot k h 2 e) ∙ f.trail in
-      let qa : a ≡ apps_at below = ea ∙ ap (λ (i : ℕ). get_or (frames_of L) i 0) (slot k h 3 e) ∙ f.apps in (
-        ap (λ (x : ℕ). On x (k - 1) u m a) qd ∙ ap (λ (x : ℕ). On d' x u m a) qh ∙ ap (λ (x : ℕ). On d' h x m a) qu ∙ ap (λ (x : ℕ). On d' h (used_at below) x a) qm ∙ ap (λ (x : ℕ). On d' h (used_at below) (trail_at below) x) qa,
-        walk_back below L X n (over_returns news below o) (subst (λ (x : ℕ). BackIn L n x X) qm b),
+      let qm : r.mark.trail ≡ trail_at below = em ∙ ap (λ (i : ℕ). get_or (frames_of L) i 0) (slot k h 2 e) ∙ f.trail in (
+        ed ∙ ap (λ (i : ℕ). get_or (frames_of L) i 0) z ∙ f.depth,
+        omega (arith, eh, e),
+        record {
+          walk = walk_back below L X n (over_returns news below o) (subst (λ (x : ℕ). BackIn L n x X) qm b);
+          is_used = sym (eu ∙ ap (λ (i : ℕ). get_or (frames_of L) i 0) (slot k h 1 e) ∙ f.words);
+          is_trail = sym qm;
+          is_apps = sym (ea ∙ ap (λ (i : ℕ). get_or (frames_of L) i 0) (slot k h 3 e) ∙ f.apps);
+        },
       );
   rest = b.rest;
 }

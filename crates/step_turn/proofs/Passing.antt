@@ -12,7 +12,7 @@ use Rattle.mem_words.specs.declared.Word.TheVariants.{Bad}
 use Rattle.mem_sorts.specs.declared.Kind.TheVariants.{And}
 use Rattle.mem_parts.specs.Parts.{outside_wide}
 use Rattle.solve_tells.specs.Draws.{Drawn}
-use Rattle.work_tables.specs.Tables.{moved_log}
+use Rattle.work_tables.specs.Tables.{log_of, moved_log}
 use Rattle.work_marks.specs.Marks.{used_at, all_told}
 use Rattle.work_marks.proofs.Verdicts.{lower_satisfiable}
 use Rattle.work_marks.proofs.Rooms.{drawn_fewer}
@@ -23,9 +23,9 @@ use Rattle.step_open.specs.Opened.{Opened}
 use Rattle.step_open.proofs.Turns.{false_true, opening_closes}
 use Rattle.step_open.proofs.Chains.{opened_in, opened_out, opened_keep, opened_none}
 use Rattle.step_frames.specs.Frames.{frames_of, same_frames}
-use Rattle.step_turn.specs.declared.Next.{Next}
+use Rattle.step_turn.specs.declared.Stand.{Stand}
 use Rattle.step_turn.specs.Boxes.{Bracket, plain, box, places, marks, inner, boxes, Told, Framed}
-use Rattle.step_turn.specs.Stood.{CanWalk, Stood, Goes}
+use Rattle.step_turn.specs.Stood.{CanWalk, Stood}
 use Rattle.step_turn.specs.Leaving.{CanLeave, Left}
 use Rattle.step_turn.proofs.Stores.{boxes_few}
 
@@ -111,29 +111,29 @@ module _ (W : List Word) (g from : ℕ) (X : List ℕ) (j d k used n a : ℕ) (c
           over = record { used = used; apps = a; at = q; frame = f.0 };
         }
 
-    pub leave_on : d ≡ 0 → (Y : List ℕ) (r : Next) → Left X k n Y r → Goes W g from j Y r
+    pub leave_on : d ≡ 0 → (Y : List ℕ) (r : Stand) → Left X k n Y r → Stood W g from Y (j + 1) r.depth r.boxes r.mark.used r.mark.trail r.mark.applications
     unfolding Told Framed
     leave_on z Y r l = go s.brackets s.opened s.told s.framed s.depth s.height s.at s.solved
       where
         stack : frames_of Y ≡ frames_of X
         stack = same_frames (outside_wide 0 335872 (omega arith) (omega arith) l.rest)
 
-        go : (bs : List Bracket) → Opened W g j (places bs) → Told W s.env bs → Framed (frames_of X) s.env bs → inner bs ≡ d → boxes bs ≡ k → At X used n a (marks s.env bs) → ((lab : ℕ → Label) → Satisfiable (all_told lab (marks s.env bs))) → Goes W g from j Y r
+        go : (bs : List Bracket) → Opened W g j (places bs) → Told W s.env bs → Framed (frames_of X) s.env bs → inner bs ≡ d → boxes bs ≡ k → At X used n a (marks s.env bs) → ((lab : ℕ → Label) → Satisfiable (all_told lab (marks s.env bs))) → Stood W g from Y (j + 1) r.depth r.boxes r.mark.used r.mark.trail r.mark.applications
         go [] p t f h b q v = absurd (some_open p)
         go (plain o ∷ bs) p t f h b q v = absurd (omega (arith, h, z))
         go (box o ns ∷ bs) p t f h b q v =
             let m = marks s.env bs in
             let y = l.back (boxes bs) (inner bs) ns m (sym b) (record { used = used; apps = a; at = q; frame = f.0 }) in
-            subst (Goes W g from j Y) (sym y.0) (record {
+            record {
               env = s.env;
               brackets = bs;
               outer = s.outer;
               opened = opened_out W g j short o (places bs) e low p;
               told = t.2;
               framed = subst (λ (F : List ℕ). Framed F s.env bs) (sym stack) f.1;
-              depth = refl;
-              height = refl;
-              at = record { walk = y.1; is_used = refl; is_trail = refl; is_apps = refl };
+              depth = sym y.0;
+              height = sym y.1;
+              at = y.2;
               solved = λ lab. lower_satisfiable lab ns m (v lab);
-              logged = λ us w. subst (λ (x : List Word). Drawn x (0 ∷ us)) (sym (moved_log (used_at m) l.rest)) (drawn_fewer (used_at m) used X (0 ∷ us) q.walk.laid (omega (arith, q.is_used, t.1.words)) (omega (arith, q.is_used, q.walk.room)) (s.logged us w));
-            })
+              logged = λ us w. subst (λ (u : ℕ). Drawn (log_of u Y) (0 ∷ us)) y.2.is_used (subst (λ (x : List Word). Drawn x (0 ∷ us)) (sym (moved_log (used_at m) l.rest)) (drawn_fewer (used_at m) used X (0 ∷ us) q.walk.laid (omega (arith, q.is_used, t.1.words)) (omega (arith, q.is_used, q.walk.room)) (s.logged us w)));
+            }

@@ -1,6 +1,6 @@
 -- A walk over the and-boxes of a goal, at one of its words: what is known there, and what is handed back behind it.
 -- Assumes nothing.
-use Rattle.std.specs.Prelude.{◌≡◌, true, false, List, ◌∷◌, ◌++◌, ℕ, ◌+◌, ◌≤◌, ◌<◌, length, get_or}
+use Rattle.std.specs.Prelude.{◌≡◌, true, false, Option, Some, None, List, ◌∷◌, ◌++◌, ℕ, ◌+◌, ◌≤◌, ◌<◌, length, get_or}
 use Rattle.constraint.specs.Tree.{Label}
 use Rattle.constraint.specs.Constraint.{Satisfiable}
 use Rattle.mem_words.specs.declared.Word.{Word}
@@ -19,8 +19,7 @@ use Rattle.rule_ranges.specs.Asked.{RoomFor, StoresDrawn, Roomy, SatIn}
 use Rattle.step_open.specs.Opened.{Opened}
 use Rattle.step_frames.specs.Frames.{frames_of}
 use Rattle.step_turn.specs.Boxes.{Bracket, places, marks, inner, boxes, Told, Framed, Environment}
-use Rattle.step_turn.specs.declared.Next.{Next}
-use Rattle.step_turn.specs.declared.Next.TheVariants.{On, Fails}
+use Rattle.step_turn.specs.declared.Stand.{Stand}
 
 -- the goal at g is a bracket of W, and there is room for the stores around it and from it down to each and-box
 pub record CanWalk (W : List Word) (g : ℕ) : Type 0 where
@@ -58,12 +57,12 @@ pub record CanTurn (W : List Word) (X : List ℕ) (j d k used n a : ℕ) : Type 
   pub stood : Stood W goal from X j d k used n a
   pub low : j < close W goal
 
-abbrev pub Goes : List Word → ℕ → ℕ → ℕ → List ℕ → Next → Type 0
-Goes W g from j X (On d k used n a) = Stood W g from X (j + 1) d k used n a
-Goes W g from j X Fails = Unsolved W j
+abbrev pub Goes : List Word → ℕ → ℕ → ℕ → List ℕ → Option Stand → Type 0
+Goes W g from j X (Some s) = Stood W g from X (j + 1) s.depth s.boxes s.mark.used s.mark.trail s.mark.applications
+Goes W g from j X None = Unsolved W j
 
 -- it goes on behind the word for every goal for which it was so; what is marked as local is as it was, and what lies behind the stack
-pub record Turned (W : List Word) (L : List ℕ) (j d k used n a : ℕ) (X : List ℕ) (r : Next) : Type 0 where
+pub record Turned (W : List Word) (L : List ℕ) (j d k used n a : ℕ) (X : List ℕ) (r : Option Stand) : Type 0 where
   pub goes : (g from : ℕ) → CanWalk W g → Stood W g from L j d k used n a → j < close W g → Goes W g from j X r
   pub locals : locals_of X ≡ locals_of L
   pub rest : Outside 0 466944 L X

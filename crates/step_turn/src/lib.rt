@@ -22,12 +22,20 @@ enum Shape {
     Else,
 }
 
-// How the walk goes on behind a word: how many brackets are open inside the innermost and-box, how many and-boxes are open, and the
-// mark, which is the used words of the log, the trail and the applications; or an and-box has no solution with its environment.
+// A mark of the walk: the used words of the log, the trail and the applications.
 #[derive(Clone, Copy)]
-pub enum Next {
-    On(usize, usize, usize, usize, usize),
-    Fails,
+pub struct Mark {
+    pub used: usize,
+    pub trail: usize,
+    pub applications: usize,
+}
+
+// Where the walk stands: how many brackets are open inside the innermost and-box, how many and-boxes are open, and the latest mark.
+#[derive(Clone, Copy)]
+pub struct Stand {
+    pub depth: usize,
+    pub boxes: usize,
+    pub mark: Mark,
 }
 
 fn place_shape(k: Kind) -> Shape
@@ -59,31 +67,32 @@ fn word_shape(x: Word) -> Shape
 }
 
 // Enters the and-box at `j`: its store is told on top of the mark, and an entry for the mark put onto the stack.
-fn enter(
-    t: &[u8],
-    w: &mut [u8],
-    j: usize,
-    d: usize,
-    k: usize,
-    used: usize,
-    n: usize,
-    a: usize,
-) -> Next
-    requires { CanTurn (words t.now) w.old j d k used n a × (kind_at (words t.now) j kinds.And ≡ true) }
-    ensures { Turned (words t.now) w.old j d k used n a w.new result }
+fn enter(t: &[u8], w: &mut [u8], j: usize, at: Stand) -> Option<Stand>
+    requires { CanTurn (words t.now) w.old j at.depth at.boxes at.mark.used at.mark.trail at.mark.applications × (kind_at (words t.now) j kinds.And ≡ true) }
+    ensures { Turned (words t.now) w.old j at.depth at.boxes at.mark.used at.mark.trail at.mark.applications w.new result }
 {
-    let r = rule_tells::tell_from(t, w, j, j + 1, used, n, a);
+    let m = at.mark;
+    let r = rule_tells::tell_from(t, w, j, j + 1, m.used, m.trail, m.applications);
     match r {
-        Around::All(u, m, b) => {
-            step_frames::push(w, k, d, used, n, a);
-            Next::On(0, k + 1, u, m, b)
+        Around::All(used, trail, applications) => {
+            step_frames::push(w, at.boxes, at.depth, m.used, m.trail, m.applications);
+            let mark = Mark {
+                used,
+                trail,
+                applications,
+            };
+            Some(Stand {
+                depth: 0,
+                boxes: at.boxes + 1,
+                mark,
+            })
         }
-        Around::Failed(_m) => Next::Fails,
+        Around::Failed(_m) => None,
     }
 }
 
 // Leaves the innermost of `k` and-boxes, at a trail of `n`: the tables are those of the mark before it.
-fn leave(w: &mut [u8], k: usize, n: usize) -> Next
+fn leave(w: &mut [u8], k: usize, n: usize) -> Stand
     requires { CanLeave w.old k n }
     ensures { Left w.old k n w.new result }
 {
@@ -94,34 +103,40 @@ fn leave(w: &mut [u8], k: usize, n: usize) -> Next
     let m = step_frames::get(w, i + 2);
     let a = step_frames::get(w, i + 3);
     work_ranges::back(w, n, m);
-    Next::On(d, h, u, m, a)
+    let mark = Mark {
+        used: u,
+        trail: m,
+        applications: a,
+    };
+    Stand {
+        depth: d,
+        boxes: h,
+        mark,
+    }
 }
 
-// Goes over the word at `j`.
-pub fn turn(
-    t: &[u8],
-    w: &mut [u8],
-    j: usize,
-    d: usize,
-    k: usize,
-    used: usize,
-    n: usize,
-    a: usize,
-) -> Next
-    requires { CanTurn (words t.now) w.old j d k used n a }
-    ensures { Turned (words t.now) w.old j d k used n a w.new result }
+// Goes over the word at `j`: where the walk stands behind it, or nothing where an and-box has no solution with its environment.
+pub fn turn(t: &[u8], w: &mut [u8], j: usize, at: Stand) -> Option<Stand>
+    requires { CanTurn (words t.now) w.old j at.depth at.boxes at.mark.used at.mark.trail at.mark.applications }
+    ensures { Turned (words t.now) w.old j at.depth at.boxes at.mark.used at.mark.trail at.mark.applications w.new result }
 {
     let x = mem_get::get(t, j);
     let s = word_shape(x);
     match s {
-        Shape::Box => enter(t, w, j, d, k, used, n, a),
-        Shape::Opens => Next::On(d + 1, k, used, n, a),
+        Shape::Box => enter(t, w, j, at),
+        Shape::Opens => Some(Stand {
+            depth: at.depth + 1,
+            ..at
+        }),
         Shape::Closes => {
-            if d == 0 {
-                return leave(w, k, n);
+            if at.depth == 0 {
+                return Some(leave(w, at.boxes, at.mark.trail));
             }
-            Next::On(d - 1, k, used, n, a)
+            Some(Stand {
+                depth: at.depth - 1,
+                ..at
+            })
         }
-        Shape::Else => Next::On(d, k, used, n, a),
+        Shape::Else => Some(at),
     }
 }

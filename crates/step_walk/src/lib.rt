@@ -14,55 +14,56 @@ ghost use Rattle.step_walk.specs.Calm.{Boxed, BoxesCalm, Walks};
 
 use mem_sorts::Kind;
 use rule_tells::Around;
-use step_turn::Next;
+use step_turn::{Mark, Stand};
 
 // Whether no and-box begins at or inside the goal at `g`.
 pub fn boxless(t: &[u8], g: usize) -> bool
     ensures { Boxed (words t.now) g result }
 {
     let e = rule_close::end_of(t, g);
-    let mut j = g;
-    while j <= e {
+    for j in g..=e {
         if rule_shapes::is_kind(t, j, Kind::And) {
             return false;
         }
-        j += 1;
     }
     true
 }
 
-// Goes over the words of the goal at `g`, whose environment was told up to the mark (`u`, `n`, `a`).
-fn walk(t: &[u8], w: &mut [u8], g: usize, u: usize, n: usize, a: usize) -> bool
-    requires { CanWalk (words t.now) g × Walks (words t.now) g n w.old g 0 0 u n a }
+// Goes over the words of the goal at `g`, whose environment was told up to the mark `environment`.
+fn walk(t: &[u8], w: &mut [u8], g: usize, environment: Mark) -> bool
+    requires { CanWalk (words t.now) g × Walks (words t.now) g environment.trail w.old g 0 0 environment.used environment.trail environment.applications }
     ensures { BoxesCalm (words t.now) g result × Walk w.new [] × Marking (locals_of w.new) (locals_at (words t.now) g) }
 {
     let e = rule_close::end_of(t, g);
     let mut j = g;
-    let mut d: usize = 0;
-    let mut k: usize = 0;
-    let mut x = u;
-    let mut y = n;
-    let mut z = a;
+    let mut at = Stand {
+        depth: 0,
+        boxes: 0,
+        mark: environment,
+    };
     while j < e {
-        let Next::On(d1, k1, x1, y1, z1) = step_turn::turn(t, w, j, d, k, x, y, z) else {
+        let Some(next) = step_turn::turn(t, w, j, at) else {
             mem_parts::zero(w, 16384, 212992);
             return false; // the box at j has no solution
         };
         let i = j;
-        d = d1;
-        k = k1;
-        x = x1;
-        y = y1;
-        z = z1;
+        at = next;
         j += 1;
+        let mark = at.mark;
         if rule_shapes::is_kind(t, i, Kind::And) {
-            if !step_quiet::silent(w, x, y, z, n) {
-                work_ranges::back(w, y, 0);
+            if !step_quiet::silent(
+                w,
+                mark.used,
+                mark.trail,
+                mark.applications,
+                environment.trail,
+            ) {
+                work_ranges::back(w, mark.trail, 0);
                 return false; // it is not quiet
             }
         }
     }
-    work_ranges::back(w, y, 0); // the environment
+    work_ranges::back(w, at.mark.trail, 0); // the environment
     true
 }
 
@@ -73,7 +74,14 @@ fn calm_marked(t: &[u8], w: &mut [u8], g: usize) -> bool
 {
     let r = rule_tells::tell_from(t, w, 0, g, 0, 0, 0);
     match r {
-        Around::All(u, n, a) => walk(t, w, g, u, n, a),
+        Around::All(used, trail, applications) => {
+            let environment = Mark {
+                used,
+                trail,
+                applications,
+            };
+            walk(t, w, g, environment)
+        }
         Around::Failed(m) => {
             work_ranges::back(w, m, 0);
             boxless(t, g) // no box has a solution with its environment

@@ -28,6 +28,6 @@ pub data Settled (L S : List ℕ) (n next : ℕ) (X : List ℕ) : ℕ → Type 0
   written : next ≤ suc last_number → n ≤ most_words → parts_in Others (take n (words S)) ≤ most_parts → Committed L S n next X → Settled L S n next X 0
 
 -- what was written has at most p parts
-pub record Written (S : List ℕ) (n r p : ℕ) : Type 0 where
-  pub few : r ≡ 0 → parts_in Others (take n (words S)) ≤ p
-  pub limit : r ≡ 0 → p ≤ most_parts
+pub record Written (S : List ℕ) (n p : ℕ) : Type 0 where
+  pub few : parts_in Others (take n (words S)) ≤ p
+  pub limit : p ≤ most_parts

@@ -1,7 +1,7 @@
 // A new configuration written into a store: all else of it stays. Whether it is within the limits is found out before.
 #![tactic(auto)]
 
-ghost use Rattle.std.specs.Prelude.{◌≡◌, [], ◌∷◌, ◌*◌, ◌<◌, ◌≤◌, length, take};
+ghost use Rattle.std.specs.Prelude.{IfOk, ◌≡◌, [], ◌∷◌, ◌*◌, ◌<◌, ◌≤◌, length, take};
 ghost use Rattle.akl.specs.Limits.{most_parts};
 ghost use Rattle.mem_words.specs.Words.{words};
 ghost use Rattle.store_form.specs.Form.{numbers_bytes};
@@ -9,6 +9,9 @@ ghost use Rattle.store_parts.specs.declared.Among.TheVariants.{Others};
 ghost use Rattle.store_parts.specs.Counting.{parts_in};
 ghost use Rattle.store_commit.specs.Committed.{CanCommit, Committed};
 ghost use Rattle.store_commit.specs.Settled.{CanSettle, Settled, Written};
+ghost use Rattle.refusals.specs.Refusals.{refused_with};
+
+use refusals::Refusal;
 
 // The header's last two numbers as bytes.
 fn count_bytes(n: usize, next: usize) -> [u8; 6]
@@ -29,10 +32,7 @@ fn larger(n: usize, old: usize) -> usize
     requires { (n ≤ 28672) × (old ≤ 28672) }
     ensures { (n ≤ result) × (old ≤ result) × (result ≤ 28672) }
 {
-    if n < old {
-        return old;
-    }
-    n
+    if n < old { old } else { n }
 }
 
 // Makes the first `n` words of `src` the configuration of the store `b`, and `next` its next fresh number. Of the configuration that
@@ -61,16 +61,9 @@ fn counted(out: &[u8], n: usize, most: usize) -> usize
     store_parts::parts(&out[..e])
 }
 
-// What is answered, and where it is 0 an upper bound of the parts that were written.
-#[derive(Clone, Copy)]
-pub struct Settlement {
-    pub answer: usize,
-    pub parts: usize,
-}
-
-// Answers 14 where the next fresh number would pass 65,535, 15 where the configuration that was built as `n` words in `out` has too many
-// parts; else 0, and writes it into the store `b`, over the `old` words there. Words of a configuration within the limits are at most
-// 28,672. Where `most` is within the limit the parts are at most `most`, and are not counted.
+// 14 where the next fresh number would pass 65,535, 15 where the configuration that was built as `n` words in `out` has too many parts;
+// else writes it into the store `b`, over the `old` words there, and hands back an upper bound of its parts. Words of a configuration within
+// the limits are at most 28,672. Where `most` is within the limit the parts are at most `most`, and are not counted.
 pub fn settle(
     b: &mut [u8],
     out: &[u8],
@@ -78,32 +71,20 @@ pub fn settle(
     next: usize,
     old: usize,
     most: usize,
-) -> Settlement
+) -> Result<usize, Refusal>
     requires { CanSettle b.old out.now n old most }
-    ensures { Settled b.old out.now n next b.new result.answer × Written out.now n result.answer result.parts }
+    ensures { Settled b.old out.now n next b.new (refused_with result) × IfOk result (Written out.now n) }
 {
     if 65535 < next {
-        return Settlement {
-            answer: 14,
-            parts: 0,
-        };
+        return Err(Refusal::NoFreshNumber);
     }
     if 28672 < n {
-        return Settlement {
-            answer: 15,
-            parts: 0,
-        }; // more words than so few parts have
+        return Err(Refusal::TooManyParts); // more words than so few parts have
     }
     let p = counted(out, n, most);
     if 2048 < p {
-        return Settlement {
-            answer: 15,
-            parts: p,
-        };
+        return Err(Refusal::TooManyParts);
     }
     commit(b, out, n, next, old);
-    Settlement {
-        answer: 0,
-        parts: p, // the parts counted
-    }
+    Ok(p) // the parts counted
 }

@@ -1,5 +1,5 @@
 -- Parts counted sixteen words at a time, where each word counts by itself. Assumes nothing.
-use Rattle.std.specs.Prelude.{◌≡◌, refl, Bool, true, false, List, [], ◌∷◌, ℕ, zero, suc, ◌+◌, ◌*◌, ◌<◌, ◌≤◌, length, take, drop}
+use Rattle.std.specs.Prelude.{◌≡◌, refl, Option, Some, None, List, [], ◌∷◌, ℕ, zero, suc, ◌+◌, ◌*◌, ◌<◌, ◌≤◌, length, take, drop}
 use Rattle.std.proofs.Common.{ap, ap₂, sym, ◌∙◌, zero-add, arith, length-drop, drop-drop}
 use Rattle.std.proofs.Math.Decide.{ℕ_discrete}
 use Rattle.mem_words.specs.declared.Word.{Word}
@@ -14,15 +14,6 @@ use Rattle.store_parts.specs.declared.Among.{Among}
 use Rattle.store_parts.specs.declared.Among.TheVariants.{Others, Variables, Hidden}
 use Rattle.store_parts.specs.Counting.{kind_parts, sort_parts, word_parts, behind_word, parts_in}
 use Rattle.store_parts.specs.Counts.{Counted}
-
-abbrev pub are_others : Among → Bool
-are_others Others = true
-are_others Variables = false
-are_others Hidden = false
-
-no_of : Bool → ℕ
-no_of true = 1
-no_of false = 0
 
 abbrev pub other_no : Among → ℕ
 other_no Others = 0
@@ -43,15 +34,10 @@ pub record Plain (b : List ℕ) (i r : ℕ) : Type 0 where
   pub parts : Tallied (word_parts Others) b i 48 r
   pub even : Tallied odd_one b i 48 0
 
--- unless r says that they are not
-pub record PlainTo (b : List ℕ) (i r : ℕ) : Type 0 where
-  pub is : r < 17 → Plain b i r
-
-pub others_are : (m : Among) → are_others m ≡ true → m ≡ Others
-unfolding no_of
-others_are Others e = refl
-others_are Variables e = absurd (let z : ◌≡◌ {A = ℕ} 0 1 = ap no_of e in omega (arith, z))
-others_are Hidden e = absurd (let z : ◌≡◌ {A = ℕ} 0 1 = ap no_of e in omega (arith, z))
+-- where it is said how many
+abbrev pub PlainTo : List ℕ → ℕ → Option ℕ → Type 0
+PlainTo b i None = Unit {0}
+PlainTo b i (Some r) = Plain b i r
 
 -- ---- the bytes of a word
 

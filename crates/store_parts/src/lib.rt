@@ -7,7 +7,7 @@ ghost use Rattle.mem_tallies.specs.Tallies.{if_first};
 ghost use Rattle.store_parts.specs.declared.Among.TheVariants.{Others};
 ghost use Rattle.store_parts.specs.Counting.{kind_parts, sort_parts, behind, free_parts, number_parts, word_parts, behind_free, behind_word, parts_in};
 ghost use Rattle.store_parts.specs.Counts.{CanRun, Ran};
-ghost use Rattle.store_parts.specs.Pieces.{are_others, odd_one, InPiece, PlainTo};
+ghost use Rattle.store_parts.specs.Pieces.{odd_one, InPiece, PlainTo};
 
 use mem_sorts::{Kind, Sort};
 use mem_words::Word;
@@ -25,13 +25,8 @@ fn kind_parts(k: Kind) -> usize
     ensures { result ≡ kind_parts k }
 {
     match k {
-        Kind::Or => 1,
-        Kind::And => 1,
-        Kind::Guarded => 1,
         Kind::Member => 0, // its statement counts
-        Kind::Wait => 1,
-        Kind::Cond => 1,
-        Kind::Commit => 1,
+        _ => 1,
     }
 }
 
@@ -39,19 +34,8 @@ fn sort_parts(s: Sort) -> usize
     ensures { result ≡ sort_parts s }
 {
     match s {
-        Sort::Locals => 0,
-        Sort::Store => 0,
-        Sort::True => 1,
-        Sort::Fail => 1,
-        Sort::Eq => 1,
-        Sort::App => 1,
-        Sort::Call => 1,
-        Sort::Comp => 1,
-        Sort::Hide => 1,
-        Sort::Clause => 1,
-        Sort::AskWait => 1,
-        Sort::AskCond => 1,
-        Sort::AskCommit => 1,
+        Sort::Locals | Sort::Store => 0,
+        _ => 1,
     }
 }
 
@@ -60,18 +44,9 @@ fn behind(s: Sort) -> Among
 {
     match s {
         Sort::Locals => Among::Variables,
-        Sort::Store => Among::Others,
-        Sort::True => Among::Others,
-        Sort::Fail => Among::Others,
-        Sort::Eq => Among::Others,
-        Sort::App => Among::Others,
-        Sort::Call => Among::Others,
-        Sort::Comp => Among::Others,
         Sort::Hide => Among::Hidden,
         Sort::Clause => Among::Hidden, // a clause hides variables as a hiding does
-        Sort::AskWait => Among::Others,
-        Sort::AskCond => Among::Others,
-        Sort::AskCommit => Among::Others,
+        _ => Among::Others,
     }
 }
 
@@ -79,9 +54,8 @@ fn free_parts(m: Among) -> usize
     ensures { result ≡ free_parts m }
 {
     match m {
-        Among::Others => 0,
         Among::Variables => 1,
-        Among::Hidden => 0,
+        _ => 0,
     }
 }
 
@@ -89,9 +63,8 @@ fn number_parts(m: Among, n: usize) -> usize
     ensures { result ≡ number_parts m n }
 {
     match m {
-        Among::Others => 0,
-        Among::Variables => 0,
         Among::Hidden => n,
+        _ => 0,
     }
 }
 
@@ -99,13 +72,11 @@ fn word_parts(m: Among, w: Word) -> usize
     ensures { result ≡ word_parts m w }
 {
     match w {
-        Word::End => 0,
         Word::Free(_) => free_parts(m),
-        Word::Level(_) => 0,
         Word::Num(n) => number_parts(m, n),
         Word::Place(k) => kind_parts(k),
         Word::Inner(s) => sort_parts(s),
-        Word::Bad => 0,
+        _ => 0,
     }
 }
 
@@ -113,9 +84,8 @@ fn behind_free(m: Among) -> Among
     ensures { result ≡ behind_free m }
 {
     match m {
-        Among::Others => Among::Others,
         Among::Variables => Among::Variables,
-        Among::Hidden => Among::Others,
+        _ => Among::Others,
     }
 }
 
@@ -123,13 +93,9 @@ fn behind_word(m: Among, w: Word) -> Among
     ensures { result ≡ behind_word m w }
 {
     match w {
-        Word::End => Among::Others,
         Word::Free(_) => behind_free(m),
-        Word::Level(_) => Among::Others,
-        Word::Num(_) => Among::Others,
-        Word::Place(_) => Among::Others,
         Word::Inner(s) => behind(s),
-        Word::Bad => Among::Others,
+        _ => Among::Others,
     }
 }
 
@@ -147,10 +113,8 @@ fn run(ws: &[u8], i: usize, e: usize, m: Among) -> Count
 {
     let mut a = m;
     let mut r = 0;
-    let mut j = i;
-    while j < e {
+    for j in i..e {
         let w = mem_get::get(ws, j);
-        j += 1;
         r += word_parts(a, w);
         a = behind_word(a, w);
     }
@@ -220,36 +184,24 @@ fn odd(m: u8, c: u8, lo: u8, hi: u8) -> u8
     if lo < 10 { 1 } else { 0 } // a hiding, a clause
 }
 
-// The parts of the sixteen words from `i` on, of which the first stands among others; 255 if a word is among them behind which others
+// The parts of the sixteen words from `i` on, of which the first stands among others, unless a word is among them behind which others
 // than others stand. `m` marks the bytes with which words begin.
-fn plain(ws: &[u8], i: usize, m: &[u8]) -> u8
+fn plain(ws: &[u8], i: usize, m: &[u8]) -> Option<u8>
     requires { InPiece ws.now i m.now }
     ensures { PlainTo ws.now i result }
 {
     let j = 3 * i;
     let mut s: u8 = 0;
     let mut q: u8 = 0;
-    let mut k = 0;
-    while k < 48 {
+    for k in 0..48 {
         let x = j + k;
         s += one(m[k], ws[x], ws[x + 1], ws[x + 2]);
         q += odd(m[k], ws[x], ws[x + 1], ws[x + 2]);
-        k += 1;
     }
     if q != 0 {
-        return 255;
+        return None;
     }
-    s
-}
-
-fn is_others(m: Among) -> bool
-    ensures { result ≡ are_others m }
-{
-    match m {
-        Among::Others => true,
-        Among::Variables => false,
-        Among::Hidden => false,
-    }
+    Some(s)
 }
 
 // Sixteen words, of which the first stands among `a`.
@@ -257,12 +209,11 @@ fn sixteen(ws: &[u8], i: usize, a: Among, m: &[u8]) -> Count
     requires { InPiece ws.now i m.now × (length (words ws.now) ≤ 1048576) }
     ensures { Ran (words ws.now) a i (i + 16) result }
 {
-    if is_others(a) {
-        let s = plain(ws, i, m) as usize;
-        if s < 17 {
+    if let Among::Others = a {
+        if let Some(s) = plain(ws, i, m) {
             return Count {
                 among: Among::Others,
-                parts: s,
+                parts: usize::from(s),
             };
         }
     }
@@ -279,6 +230,7 @@ pub fn parts(ws: &[u8]) -> usize
     let mut m = Among::Others;
     let mut r = 0;
     let mut i = 0;
+    // A `while`: where the pieces end the words that are left begin.
     while 17 <= n - i {
         let c = sixteen(ws, i, m, &marks);
         i += 16;

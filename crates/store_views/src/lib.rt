@@ -9,7 +9,7 @@ pub fn program_start(b: &[u8]) -> usize
     requires { 18 ≤ length b.now }
     ensures { result ≡ 18 + 3 * nodes_in b.now }
 {
-    let n = mem_parts::get3(b, 0, 18, 1);
+    let n = mem_parts::get::<3>(b, 0, 18, 1);
     18 + 3 * n
 }
 
@@ -18,7 +18,7 @@ pub fn program_count(b: &[u8]) -> usize
     requires { 18 ≤ length b.now }
     ensures { (result ≡ rules_in b.now) × (result < 16777216) }
 {
-    mem_parts::get3(b, 0, 18, 2)
+    mem_parts::get::<3>(b, 0, 18, 2)
 }
 
 // How many words the configuration has.
@@ -26,7 +26,7 @@ pub fn config_count(b: &[u8]) -> usize
     requires { 18 ≤ length b.now }
     ensures { (result ≡ words_in b.now) × (result < 16777216) }
 {
-    mem_parts::get3(b, 0, 18, 4)
+    mem_parts::get::<3>(b, 0, 18, 4)
 }
 
 // The next fresh number.
@@ -34,5 +34,5 @@ pub fn next_number(b: &[u8]) -> usize
     requires { 18 ≤ length b.now }
     ensures { (result ≡ next_in b.now) × (result < 16777216) }
 {
-    mem_parts::get3(b, 0, 18, 5)
+    mem_parts::get::<3>(b, 0, 18, 5)
 }

@@ -45,9 +45,7 @@ pub fn undo(w: &mut [u8], n: usize, m: usize)
     requires { Laid w.old × CanUndo (cells_of w.old) (vars_of w.old) (olds_of w.old) n m }
     ensures { Undone w.old n m w.new }
 {
-    let mut i = n;
-    while m < i {
-        i -= 1;
+    for i in (m..n).rev() {
         let x = work_trail::var_get(w, i);
         let o = work_trail::old_get(w, i);
         work_trail::cell_put(w, x, o);

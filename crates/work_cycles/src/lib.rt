@@ -2,37 +2,20 @@
 // the working slice. The contracts are stated by `solve_explores`, at the tables of the slice.
 #![tactic(auto)]
 
-ghost use Rattle.std.specs.Prelude.{◌≤◌, length};
-ghost use Rattle.solve_explores.specs.Search.{CanDrain, Cleared, CanTest, Tested};
+ghost use Rattle.solve_explores.specs.Search.{CanDrain, CanTest, Tested};
 ghost use Rattle.work_tables.specs.Tables.{cells_of, pos_of, log_of, marks_of, stack_of, dones_of, Laid, Logged, Searched};
-
-// Makes the first `a` marks 0.
-fn clear(w: &mut [u8], a: usize)
-    requires { Laid w.old × (a ≤ length (marks_of w.old)) }
-    ensures { Cleared (marks_of w.old) a (marks_of w.new) × Searched w.old w.new }
-{
-    let mut i = 0;
-    while i < a {
-        work_search::mark_put(w, i, 0);
-        i += 1;
-    }
-}
 
 // Searches from every application that is not met yet.
 fn sweep(w: &mut [u8], used: usize, a: usize) -> bool
     requires { Laid w.old × Logged used × CanDrain (log_of used w.old) (pos_of w.old) (cells_of w.old) (marks_of w.old) (stack_of w.old) (dones_of w.old) a 0 2 }
     ensures { Tested (log_of used w.old) (pos_of w.old) (cells_of w.old) result × Searched w.old w.new }
 {
-    let mut k = 0;
     let mut q = 2;
-    while k < a {
-        let i = k;
-        k += 1;
-        if work_search::mark_get(w, i) == 0 {
-            let r = work_explores::explore(w, used, a, q, i);
-            if r == 0 {
+    for k in 0..a {
+        if work_search::mark_get(w, k) == 0 {
+            let Some(r) = work_explores::explore(w, used, a, q, k) else {
                 return false;
-            }
+            };
             q = r;
         }
     }
@@ -44,6 +27,6 @@ pub fn acyclic(w: &mut [u8], used: usize, a: usize) -> bool
     requires { Laid w.old × Logged used × CanTest (log_of used w.old) (pos_of w.old) (cells_of w.old) (marks_of w.old) (stack_of w.old) (dones_of w.old) a }
     ensures { Tested (log_of used w.old) (pos_of w.old) (cells_of w.old) result × Searched w.old w.new }
 {
-    clear(w, a);
+    work_search::clear(w, a);
     sweep(w, used, a)
 }

@@ -1,5 +1,6 @@
 // The search for a cycle from one application in the working slice, depth first, with a stack. The contracts are stated by
-// `solve_explores`, at the tables of the slice.
+// `solve_explores`, at the tables of the slice. A mark is a number, as the table holds it: 0 for an application that was not met, 1 for
+// one on the stack, else the rank of one that is done.
 #![tactic(auto)]
 
 ghost use Rattle.std.specs.Prelude.{◌≤◌, length};
@@ -51,8 +52,8 @@ fn pass(w: &mut [u8], h: usize)
     work_search::done_put(w, h - 1, i + 1);
 }
 
-// Goes on with a search until its stack is empty: 0 for a cycle, else the next rank.
-fn drain(w: &mut [u8], used: usize, a: usize, n: usize, q: usize) -> usize
+// Goes on with a search until its stack is empty: the next rank; or none, for a cycle.
+fn drain(w: &mut [u8], used: usize, a: usize, n: usize, q: usize) -> Option<usize>
     requires { Laid w.old × Logged used × CanDrain (log_of used w.old) (pos_of w.old) (cells_of w.old) (marks_of w.old) (stack_of w.old) (dones_of w.old) a n q }
     ensures { Draining (log_of used w.old) (pos_of w.old) (cells_of w.old) (marks_of w.old) a (marks_of w.new) (stack_of w.new) (dones_of w.new) result × Searched w.old w.new }
 {
@@ -81,18 +82,18 @@ fn drain(w: &mut [u8], used: usize, a: usize, n: usize, q: usize) -> usize
                     h += 1;
                 } else {
                     if m == 1 {
-                        return 0;
+                        return None;
                     }
                     work_search::done_put(w, top, i + 1);
                 }
             }
         }
     }
-    clock
+    Some(clock)
 }
 
-// Searches from the application `k`, which is not met yet: 0 for a cycle, else the next rank.
-pub fn explore(w: &mut [u8], used: usize, a: usize, q: usize, k: usize) -> usize
+// Searches from the application `k`, which is not met yet: the next rank; or none, for a cycle.
+pub fn explore(w: &mut [u8], used: usize, a: usize, q: usize, k: usize) -> Option<usize>
     requires { Laid w.old × Logged used × CanExplore (log_of used w.old) (pos_of w.old) (cells_of w.old) (marks_of w.old) (stack_of w.old) (dones_of w.old) a q k }
     ensures { Exploring (log_of used w.old) (pos_of w.old) (cells_of w.old) (marks_of w.old) a k (marks_of w.new) (stack_of w.new) (dones_of w.new) result × Searched w.old w.new }
 {

@@ -9,7 +9,8 @@ ghost use Rattle.work_judge.specs.Judging.{CanAgainst, Against, Suit, Locals, Ju
 use solve_quiet::Calm;
 use solve_tells::Told;
 
-// What a judgement says: words and slice do not fit, there is no room, the store is quiet, it is not.
+// What a judgement says: words and slice do not fit, there is no room, the store is quiet, it is not. Four answers and no Result: C and
+// the callers take each by itself.
 #[derive(Clone, Copy)]
 pub enum Judged {
     Unfit,
@@ -57,12 +58,10 @@ pub fn mark_locals(locals: &[u8], w: &mut [u8])
     ensures { Locals w.old (shorts locals.now) w.new }
 {
     mem_parts::zero(w, 335872, 401408);
-    let k = mem_numbers::short_count(locals);
-    let mut i = 0;
-    while i < k {
-        let x = mem_numbers::short_get(locals, i);
+    let k = mem_numbers::count::<2>(locals);
+    for i in 0..k {
+        let x = mem_numbers::get::<2>(locals, i);
         work_tables::local_put(w, x, 1);
-        i += 1;
     }
 }
 

@@ -7,67 +7,54 @@ ghost use Rattle.solve_quiet.specs.Owners.{CanLookOne, CanOwn, Looking, CanLookA
 ghost use Rattle.work_tables.specs.Tables.{cells_of, vars_of, olds_of, locals_of, Laid, Moved};
 
 use mem_variables::Variable;
-use solve_quiet::Owned;
+use solve_quiet::Unowned;
 
 // Looks at the trail's entry `i`: a variable that was unbound and is no local is unbound still, and alone in its class.
-fn own_one(w: &mut [u8], i: usize, m: usize) -> Owned
+fn own_one(w: &mut [u8], i: usize, m: usize) -> Result<usize, Unowned>
     requires { Laid w.old × CanLookOne (locals_of w.old) (cells_of w.old) (vars_of w.old) (olds_of w.old) i m }
     ensures { ((T X C : List ℕ) (from n : ℕ) → CanOwn (locals_of w.old) T X C from n (cells_of w.old) (vars_of w.old) (olds_of w.old) i m → Looking (locals_of w.old) T X C from n (cells_of w.new) (vars_of w.new) (olds_of w.new) (i + 1) result) × Moved w.old w.new }
 {
     let x = work_trail::var_get(w, i);
     let c = work_trail::old_get(w, i);
     if c % 4 != 0 {
-        return Owned::Apart(m);
+        return Ok(m);
     }
     if work_tables::local_get(w, x) != 0 {
-        return Owned::Apart(m);
+        return Ok(m);
     }
     let r = work_cells::find(w, Variable(x));
     let d = work_trail::cell_get(w, r.0);
     if d % 4 == 2 {
-        return Owned::Joint(m);
+        return Err(Unowned::Joint(m));
     }
     if r.0 == x {
-        return Owned::Apart(m);
+        return Ok(m);
     }
     if work_tables::local_get(w, r.0) == 0 {
-        return Owned::Joint(m);
+        return Err(Unowned::Joint(m));
     }
     if d % 4 == 3 {
         if d / 256 == x {
-            return Owned::Apart(m);
+            return Ok(m);
         }
-        return Owned::Joint(m);
+        return Err(Unowned::Joint(m));
     }
     if !work_cells::roomy(w, m) {
-        return Owned::NoPlace(m);
+        return Err(Unowned::NoPlace(m));
     }
     let k = m + 1;
     work_cells::save(w, m, r, 3 + d / 4 % 64 * 4 + x * 256);
-    Owned::Apart(k)
+    Ok(k)
 }
 
 // Looks at the trail's entries from `from` on up to `n`.
-pub fn own_all(w: &mut [u8], from: usize, n: usize) -> Owned
+pub fn own_all(w: &mut [u8], from: usize, n: usize) -> Result<usize, Unowned>
     requires { Laid w.old × CanLookAll (locals_of w.old) (cells_of w.old) (vars_of w.old) (olds_of w.old) from n }
     ensures { Looking (locals_of w.old) (cells_of w.old) (vars_of w.old) (olds_of w.old) from n (cells_of w.new) (vars_of w.new) (olds_of w.new) n result × Moved w.old w.new }
 {
-    let mut i = from;
     let mut m = n;
-    while i < n {
-        let o = own_one(w, i, m);
-        i += 1;
-        match o {
-            Owned::Apart(e) => {
-                m = e;
-            }
-            Owned::Joint(e) => {
-                return Owned::Joint(e);
-            }
-            Owned::NoPlace(e) => {
-                return Owned::NoPlace(e);
-            }
-        }
+    for i in from..n {
+        m = own_one(w, i, m)?;
     }
-    Owned::Apart(m)
+    Ok(m)
 }

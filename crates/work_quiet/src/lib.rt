@@ -6,7 +6,7 @@ ghost use Rattle.solve_explores.specs.Search.{CanTest};
 ghost use Rattle.solve_quiet.specs.Solver.{Solved, CanCalm, Calmed, Kept};
 ghost use Rattle.work_tables.specs.Tables.{cells_of, vars_of, olds_of, pos_of, log_of, marks_of, stack_of, dones_of, locals_of, Laid, Logged, Searched, Tried};
 
-use solve_quiet::{Calm, Owned};
+use solve_quiet::{Calm, Unowned};
 
 // Whether what was told has a solution.
 pub fn satisfiable(w: &mut [u8], used: usize, a: usize) -> bool
@@ -26,15 +26,15 @@ pub fn quiet(w: &mut [u8], used: usize, n: usize, a: usize, from: usize) -> Calm
     }
     let o = work_owners::own_all(w, from, n);
     match o {
-        Owned::Apart(m) => {
+        Ok(m) => {
             work_cells::undo(w, m, n);
             Calm::Silent
         }
-        Owned::Joint(m) => {
+        Err(Unowned::Joint(m)) => {
             work_cells::undo(w, m, n);
             Calm::Loudly
         }
-        Owned::NoPlace(m) => {
+        Err(Unowned::NoPlace(m)) => {
             work_cells::undo(w, m, n);
             Calm::NoSpace
         }

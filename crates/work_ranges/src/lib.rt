@@ -14,12 +14,10 @@ pub fn tell(w: &mut [u8], used: usize, n: usize, a: usize, from: usize, to: usiz
     requires { Laid w.old × Logged used × CanTell (log_of used w.old) (pos_of w.old) (cells_of w.old) (vars_of w.old) (olds_of w.old) n a from to }
     ensures { Telling (log_of used w.old) (pos_of w.old) (cells_of w.old) (vars_of w.old) (olds_of w.old) n a (apps_in (log_of used w.old) from to) (range_of (log_of used w.old) from to) (pos_of w.new) (cells_of w.new) (vars_of w.new) (olds_of w.new) result × Noted w.old w.new × Ahead a to (pos_of w.new) result }
 {
-    let mut i = from;
     let mut m = n;
     let mut k = a;
-    while i < to {
+    for i in from..to {
         let r = work_tells::tell_one(w, used, m, k, i);
-        i += 1;
         match r {
             Told::All(e, f) => {
                 m = e;

@@ -1,9 +1,7 @@
 -- The test leaves all tables but its own as they were: what is asked and said of them is the same before and after. Assumes nothing.
-use Rattle.std.specs.Prelude.{◌≡◌, List, ℕ, ◌+◌, ◌-◌, ◌*◌, ◌<◌, ◌≤◌, length, get_or, drop}
-use Rattle.std.proofs.Common.{ap, sym, ◌∙◌, subst, arith, get_or-take, get_or-drop}
-use Rattle.mem_numbers.specs.Numbers.{shorts, get_or_shorts, zero_byte}
+use Rattle.std.specs.Prelude.{List, ℕ}
+use Rattle.std.proofs.Common.{sym, subst, arith}
 use Rattle.mem_words.specs.declared.Word.{Word}
-use Rattle.mem_parts.specs.Parts.{cut, Zeroed, outside_wide}
 use Rattle.solve_explores.specs.Search.{Fitting}
 use Rattle.solve_explores.specs.Since.{CanSince}
 use Rattle.work_tables.specs.Tables.{cells_of, vars_of, olds_of, pos_of, log_of, marks_of, stack_of, dones_of, Laid, laid_after, Searched, searched_at, searched_to, searched_var, searched_old, length_mark, length_stack, length_done}
@@ -21,18 +19,3 @@ pub can_since_after : {L X : List ℕ} {n a from : ℕ} (k : ℕ) → Laid L →
 can_since_after {L} {X} {n} {a} {from} k h p c =
     subst (λ (A : List ℕ). CanSince (log_of k X) (pos_of X) (cells_of X) A (marks_of X) (stack_of X) (dones_of X) n a from) (sym (searched_var p))
     (searched_to k (λ (W : List Word) (P T : List ℕ). CanSince W P T (vars_of L) (marks_of X) (stack_of X) (dones_of X) n a from) p (record { fits = fitting_after h p c.fits; le = c.le; fit_x = c.fit_x; vars = c.vars }))
-
--- a byte of a table at the beginning of the slice
-low_byte : (e j : ℕ) (X : List ℕ) → j < e → get_or (cut 0 e X) j 0 ≡ get_or X j 0
-unfolding cut
-low_byte e j X h = get_or-take (e - 0) (drop 0 X) j 0 (omega arith) ∙ get_or-drop 0 X j 0 ∙ ap (λ (i : ℕ). get_or X i 0) (omega arith)
-
--- the marks of the first a applications are made zero
-pub marks_zero : {L X : List ℕ} (a : ℕ) → Laid L → a ≤ 2048 → Zeroed 0 (2 * a) L X → Searched L X × ((k : ℕ) → k < a → get_or (marks_of X) k 0 ≡ 0)
-unfolding marks_of
-marks_zero {L} {X} a g m z =
-    let s : Searched L X = outside_wide 0 16384 (omega arith) (omega arith) z.rest in
-    let h : Laid X = laid_after g s in
-    let byte : (j : ℕ) → j < 2 * a → get_or (cut 0 4096 X) j 0 ≡ 0 =
-    λ j l. low_byte 4096 j X (omega arith) ∙ sym (low_byte (2 * a) j X l) ∙ ap (λ (l : List ℕ). get_or l j 0) z.part ∙ zero_byte (2 * a - 0) j in
-    (s, λ k l. get_or_shorts (cut 0 4096 X) k (omega (arith, length_mark h)) ∙ omega (arith, byte (2 * k) (omega arith), byte (2 * k + 1) (omega arith)))

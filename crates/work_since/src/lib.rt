@@ -8,19 +8,19 @@ ghost use Rattle.work_tables.specs.Tables.{cells_of, vars_of, olds_of, pos_of, l
 
 use mem_variables::Variable;
 
-// Searches from the class of `x`, where it is bound and its application not met yet: 0 for a cycle, else the next rank.
-fn visit(w: &mut [u8], used: usize, a: usize, q: usize, x: usize) -> usize
+// Searches from the class of `x`, where it is bound and its application not met yet: the next rank; or none, for a cycle.
+fn visit(w: &mut [u8], used: usize, a: usize, q: usize, x: usize) -> Option<usize>
     requires { Laid w.old × Logged used × CanVisit (log_of used w.old) (pos_of w.old) (cells_of w.old) (marks_of w.old) (stack_of w.old) (dones_of w.old) a q x }
     ensures { Visiting (log_of used w.old) (pos_of w.old) (cells_of w.old) (marks_of w.old) a x (marks_of w.new) (stack_of w.new) (dones_of w.new) result × Searched w.old w.new }
 {
     let r = work_cells::find(w, Variable(x));
     let c = work_trail::cell_get(w, r.0);
     if c % 4 != 2 {
-        return q;
+        return Some(q);
     }
     let k = c / 256;
     if work_search::mark_get(w, k) != 0 {
-        return q;
+        return Some(q);
     }
     work_explores::explore(w, used, a, q, k)
 }
@@ -30,15 +30,12 @@ fn trace(w: &mut [u8], used: usize, n: usize, a: usize, from: usize) -> bool
     requires { Laid w.old × Logged used × CanSince (log_of used w.old) (pos_of w.old) (cells_of w.old) (vars_of w.old) (marks_of w.old) (stack_of w.old) (dones_of w.old) n a from × Search (log_of used w.old) (pos_of w.old) (cells_of w.old) (marks_of w.old) (stack_of w.old) (dones_of w.old) a 0 2 }
     ensures { TestedSince (log_of used w.old) (pos_of w.old) (cells_of w.old) (vars_of w.old) (olds_of w.old) n a from result × Searched w.old w.new }
 {
-    let mut i = from;
     let mut q = 2;
-    while i < n {
+    for i in from..n {
         let x = work_trail::var_get(w, i);
-        i += 1;
-        let r = visit(w, used, a, q, x);
-        if r == 0 {
+        let Some(r) = visit(w, used, a, q, x) else {
             return false;
-        }
+        };
         q = r;
     }
     true
@@ -49,6 +46,6 @@ pub fn acyclic_since(w: &mut [u8], used: usize, n: usize, a: usize, from: usize)
     requires { Laid w.old × Logged used × CanSince (log_of used w.old) (pos_of w.old) (cells_of w.old) (vars_of w.old) (marks_of w.old) (stack_of w.old) (dones_of w.old) n a from }
     ensures { TestedSince (log_of used w.old) (pos_of w.old) (cells_of w.old) (vars_of w.old) (olds_of w.old) n a from result × Searched w.old w.new }
 {
-    mem_parts::zero(w, 0, 2 * a); // the marks of the applications that there are
+    work_search::clear(w, a);
     trace(w, used, n, a, from)
 }

@@ -16,7 +16,7 @@ pub fn pos_get(w: &[u8], i: usize) -> usize
     requires { CanRead w.now 2048 i }
     ensures { Got (pos_of w.now) i 4294967296 result }
 {
-    mem_parts::get4(w, 253952, 262144, i)
+    mem_parts::get::<4>(w, 253952, 262144, i)
 }
 
 // Makes `v` the application's position at `i`.
@@ -24,7 +24,7 @@ pub fn pos_put(w: &mut [u8], i: usize, v: usize)
     requires { CanWrite w.old 2048 i 4294967296 v }
     ensures { PutPos w.old i v w.new }
 {
-    mem_parts::put4(w, 253952, 262144, i, v);
+    mem_parts::put::<4>(w, 253952, 262144, i, v);
 }
 
 // The mark of the variable `x`: 0 if it is no local.

@@ -1,10 +1,13 @@
 -- Where the applications stand that were told: each before the end of what was told. Assumes nothing.
-use Rattle.std.specs.Prelude.{◌≡◌, refl, List, ℕ, ◌+◌, ◌≤◌, ◌<◌, length, get_or}
+use Rattle.std.specs.Prelude.{Result, Ok, Err, ◌≡◌, refl, List, ℕ, ◌+◌, ◌≤◌, ◌<◌, length, get_or}
 use Rattle.std.proofs.Common.{ap, sym, ◌∙◌, subst, arith}
 use Rattle.std.proofs.Math.Decide.{dec_lt}
 use Rattle.mem_numbers.specs.Stored.{stored_same}
 use Rattle.solve_tells.specs.declared.Told.{Told}
 use Rattle.solve_tells.specs.declared.Told.TheVariants.{All, Failed, NoRoom}
+use Rattle.solve_tells.specs.declared.Stop.{Stop}
+use Rattle.solve_tells.specs.declared.Stop.TheVariants.{Clash, Full}
+use Rattle.solve_tells.specs.Tells.{told_by}
 use Rattle.work_tables.specs.Tables.{pos_of, Laid, Moved, moved_pos}
 use Rattle.work_tables.specs.Writes.{PutPos}
 
@@ -34,3 +37,9 @@ before_then P P' a k k' i b o n j h g = go (dec_lt j k)
     go : Dec (j < k) → get_or P' j 0 < i + 1
     go (yes l) = let q = b j h l in let r = o j l in omega arith
     go (no l) = n j (omega arith) g
+
+-- of a step it does not matter how it ended
+pub ahead_by : (a e k : ℕ) (P : List ℕ) (o : Result ℕ Stop) → Before a k e P → Ahead a e P (told_by o k)
+ahead_by a e k P (Ok n) b = b
+ahead_by a e k P (Err (Clash n)) b = b
+ahead_by a e k P (Err (Full n)) b = b

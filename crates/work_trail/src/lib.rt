@@ -10,7 +10,7 @@ pub fn cell_get(w: &[u8], i: usize) -> usize
     requires { CanRead w.now 65536 i }
     ensures { Got (cells_of w.now) i 16777216 result }
 {
-    mem_parts::get3(w, 16384, 212992, i)
+    mem_parts::get::<3>(w, 16384, 212992, i)
 }
 
 // Makes `v` the cell at `i`.
@@ -18,7 +18,7 @@ pub fn cell_put(w: &mut [u8], i: usize, v: usize)
     requires { CanWrite w.old 65536 i 16777216 v }
     ensures { PutCell w.old i v w.new }
 {
-    mem_parts::put3(w, 16384, 212992, i, v);
+    mem_parts::put::<3>(w, 16384, 212992, i, v);
 }
 
 // The trail's variable at `i`.
@@ -26,7 +26,7 @@ pub fn var_get(w: &[u8], i: usize) -> usize
     requires { CanRead w.now 8192 i }
     ensures { Got (vars_of w.now) i 65536 result }
 {
-    mem_parts::get2(w, 212992, 229376, i)
+    mem_parts::get::<2>(w, 212992, 229376, i)
 }
 
 // Makes `v` the trail's variable at `i`.
@@ -34,7 +34,7 @@ pub fn var_put(w: &mut [u8], i: usize, v: usize)
     requires { CanWrite w.old 8192 i 65536 v }
     ensures { PutVar w.old i v w.new }
 {
-    mem_parts::put2(w, 212992, 229376, i, v);
+    mem_parts::put::<2>(w, 212992, 229376, i, v);
 }
 
 // The trail's old cell at `i`.
@@ -42,7 +42,7 @@ pub fn old_get(w: &[u8], i: usize) -> usize
     requires { CanRead w.now 8192 i }
     ensures { Got (olds_of w.now) i 16777216 result }
 {
-    mem_parts::get3(w, 229376, 253952, i)
+    mem_parts::get::<3>(w, 229376, 253952, i)
 }
 
 // Makes `v` the trail's old cell at `i`.
@@ -50,5 +50,5 @@ pub fn old_put(w: &mut [u8], i: usize, v: usize)
     requires { CanWrite w.old 8192 i 16777216 v }
     ensures { PutOld w.old i v w.new }
 {
-    mem_parts::put3(w, 229376, 253952, i, v);
+    mem_parts::put::<3>(w, 229376, 253952, i, v);
 }

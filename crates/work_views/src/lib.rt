@@ -16,8 +16,14 @@ pub fn view_of(w: &[u8], x: Variable) -> View
     let r = work_cells::find(w, x);
     let c = work_trail::cell_get(w, r.0);
     if c % 4 != 2 {
-        return View::Unbound(r);
+        return View {
+            root: r,
+            term: None,
+        };
     }
     let p = work_tables::pos_get(w, c / 256);
-    View::Bound(r, p)
+    View {
+        root: r,
+        term: Some(p),
+    }
 }

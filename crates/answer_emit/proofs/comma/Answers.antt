@@ -1,6 +1,7 @@
--- Two bytes, one behind the other. Assumes nothing.
-use Rattle.answer_emit.proofs.Marks.{put_comma}
+-- Its bytes are the piece. Assumes nothing.
+use Rattle.akl.specs.Base.{bytes, bytes_from}
 use Rattle.answer_emit.proofs.comma.Goals as goal
 
 pub returns : goal.returns
-returns c = put_comma c.byte-a.ensures c.byte.ensures
+unfolding bytes bytes_from
+returns c = c.text.ensures

@@ -14,9 +14,6 @@ overflow_add-out-in-loop-j c = omega (arith, backwards_room c.loop-j.invariant.t
 pub bounds-out-at : goal.bounds-out-at
 bounds-out-at c = omega (arith, backwards_room c.loop-j.invariant.text)
 
-pub loop-j-smaller : goal.loop-j-smaller
-loop-j-smaller c = omega arith
-
 pub loop-j-preserved : goal.loop-j-preserved
 loop-j-preserved c = printing_more (c.loop-j.j - 1) _ c.loop-j.invariant (omega arith) refl
 

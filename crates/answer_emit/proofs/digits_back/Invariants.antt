@@ -3,6 +3,3 @@ use Rattle.answer_emit.proofs.digits_back.Given as goal
 
 abbrev pub invariant-loop-j : goal.invariant-loop-j
 invariant-loop-j l = Printing l.n l.len l.initial.out l.at l.k l.j l.out
-
-abbrev pub decreases-loop-j : goal.decreases-loop-j
-decreases-loop-j l = l.j

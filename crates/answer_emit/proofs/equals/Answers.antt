@@ -1,6 +1,7 @@
--- Three bytes, one behind the other. Assumes nothing.
-use Rattle.answer_emit.proofs.Marks.{put_equals}
+-- Its bytes are the piece. Assumes nothing.
+use Rattle.akl.specs.Base.{bytes, bytes_from}
 use Rattle.answer_emit.proofs.equals.Goals as goal
 
 pub returns : goal.returns
-returns c = put_equals c.byte-a.ensures c.byte-b.ensures c.byte.ensures
+unfolding bytes bytes_from
+returns c = c.text.ensures

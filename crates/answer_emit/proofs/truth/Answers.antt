@@ -1,6 +1,7 @@
--- Four bytes, one behind the other. Assumes nothing.
-use Rattle.answer_emit.proofs.Marks.{put_truth}
+-- Its bytes are the piece. Assumes nothing.
+use Rattle.akl.specs.Base.{bytes, bytes_from}
 use Rattle.answer_emit.proofs.truth.Goals as goal
 
 pub returns : goal.returns
-returns c = put_truth c.byte-a.ensures c.byte-b.ensures c.byte-c.ensures c.byte.ensures
+unfolding bytes bytes_from
+returns c = c.text.ensures

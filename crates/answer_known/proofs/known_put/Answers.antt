@@ -3,8 +3,8 @@ use Rattle.answer_known.specs.Known.{put_known}
 use Rattle.answer_known.proofs.Known.{set_known}
 use Rattle.answer_known.proofs.known_put.Goals as goal
 
-pub put4-requires : goal.put4-requires
-put4-requires c = set_known c.requires
+pub put-requires-clause-can : goal.put-requires-clause-can
+put-requires-clause-can c = set_known c.requires
 
 pub returns : goal.returns
-returns c = put_known c.requires.laid c.put4.ensures
+returns c = put_known c.requires.laid c.put.ensures

@@ -8,6 +8,3 @@ use Rattle.answer_length.proofs.bindings.Given as goal
 
 abbrev pub invariant-loop-i : goal.invariant-loop-i
 invariant-loop-i l = Laid l.w × Counted l.initial.w l.w × Lengthened (triples l.table) (triples l.vars) (log_of l.used l.initial.w) (pos_of l.initial.w) (cells_of l.initial.w) l.m (numbers_of l.w) (known_of l.w) l.i l.c l.a
-
-abbrev pub decreases-loop-i : goal.decreases-loop-i
-decreases-loop-i l = l.n - l.i

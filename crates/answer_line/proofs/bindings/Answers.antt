@@ -1,33 +1,33 @@
 -- The invariant: what is written and what is to come is the line. Assumes nothing.
-use mathlib.Core.Path.{sym, ◌∙◌}
+use Prim.Native.Nat.{◌-◌}
 use native.Mathlib.Omega.{arith}
 use Rattle.mem_numbers.specs.Numbers.{triples}
 use Rattle.mem_parts.specs.Parts.{outside_then}
 use Rattle.work_tables.specs.Tables.{cells_of, pos_of, log_of, laid_after}
 use Rattle.answer_stack.specs.Slots.{numbers_of, same_answered}
-use Rattle.answer_line.proofs.Lining.{low_name, lined_start, lined_print, lined_last, lined_over, lined_more, shown_to, bound_at}
+use Rattle.answer_line.proofs.Lining.{low_name, lined_start, lined_at, lined_print, lined_last, lined_over, lined_more, shown_to, bound_at}
 use Rattle.answer_line.proofs.bindings.Goals as goal
 
 pub loop-i-init : goal.loop-i-init
 loop-i-init c = (c.requires.0, same_answered, lined_start (triples c.args.table.now) (log_of c.args.used c.args.w.now) (pos_of c.args.w.now) (cells_of c.args.w.now) (triples c.args.vars.now) (numbers_of c.args.w.now) c.args.out.now c.args.write (omega (arith, c.requires.5, c.requires.6)) c.requires.4)
 
-pub triple_get-v-requires : goal.triple_get-v-requires
-triple_get-v-requires c = omega (arith, c.loop-i.invariant.2.inside)
+pub get-v-requires-clause-inside : goal.get-v-requires-clause-inside
+get-v-requires-clause-inside c = omega (arith, c.loop-i.invariant.2.inside)
 
 pub binding-t-requires : goal.binding-t-requires
-binding-t-requires c = (c.loop-i.invariant.0, c.requires.1, shown_to c.args.used c.requires.1 c.requires.0 c.loop-i.invariant.1 c.requires.2, lined_print (triples c.args.table.now) (log_of c.args.used c.args.w.now) (pos_of c.args.w.now) (cells_of c.args.w.now) (omega (arith, c.loop-i.invariant.2.inside, c.requires.3.few)) c.loop-i.invariant.2, low_name c.requires.3 c.triple_get-v.ensures.is (omega (arith, c.loop-i.invariant.2.inside)))
-
-pub overflow_add-i : goal.overflow_add-i
-overflow_add-i c = omega (arith, c.loop-i.invariant.2.inside, c.requires.3.few)
-
-pub returns-then-i-n : goal.returns-then-i-n
-returns-then-i-n c = (lined_last (triples c.args.table.now) (log_of c.args.used c.args.w.now) (pos_of c.args.w.now) (cells_of c.args.w.now) (triples c.args.vars.now) c.triple_get-v.ensures.is c.loop-i.invariant.2 (bound_at c.args.used c.requires.1 c.requires.0 c.loop-i.invariant.1 c.binding-t.ensures.0) (c.if-i-n.true ∙ c.requires.5), outside_then c.loop-i.invariant.1 c.binding-t.ensures.1)
+binding-t-requires c = (c.loop-i.invariant.0, c.requires.1, shown_to c.args.used c.requires.1 c.requires.0 c.loop-i.invariant.1 c.requires.2, lined_print (triples c.args.table.now) (log_of c.args.used c.args.w.now) (pos_of c.args.w.now) (cells_of c.args.w.now) (omega (arith, c.loop-i.invariant.2.inside, c.requires.3.few)) c.loop-i.invariant.2, low_name c.requires.3 c.get-v.ensures.is (omega (arith, c.loop-i.invariant.2.inside)))
 
 pub returns-then-out-t : goal.returns-then-out-t
-returns-then-out-t c = (lined_over (triples c.args.table.now) (log_of c.args.used c.args.w.now) (pos_of c.args.w.now) (cells_of c.args.w.now) (triples c.args.vars.now) c.triple_get-v.ensures.is c.loop-i.invariant.2 (bound_at c.args.used c.requires.1 c.requires.0 c.loop-i.invariant.1 c.binding-t.ensures.0) (λ q. c.if-i-n.false (q ∙ sym c.requires.5)) (omega arith), outside_then c.loop-i.invariant.1 c.binding-t.ensures.1)
-
-pub loop-i-smaller : goal.loop-i-smaller
-loop-i-smaller c = omega (arith, c.loop-i.invariant.2.inside, c.requires.5)
+returns-then-out-t c = (lined_over (triples c.args.table.now) (log_of c.args.used c.args.w.now) (pos_of c.args.w.now) (cells_of c.args.w.now) (triples c.args.vars.now) c.get-v.ensures.is c.loop-i.invariant.2 (bound_at c.args.used c.requires.1 c.requires.0 c.loop-i.invariant.1 c.binding-t.ensures.0) (λ q. omega (arith, q, c.requires.5)) (omega arith), outside_then c.loop-i.invariant.1 c.binding-t.ensures.1)
 
 pub loop-i-preserved : goal.loop-i-preserved
-loop-i-preserved c = (laid_after c.loop-i.invariant.0 c.binding-t.ensures.1, outside_then c.loop-i.invariant.1 c.binding-t.ensures.1, lined_more (triples c.args.table.now) (log_of c.args.used c.args.w.now) (pos_of c.args.w.now) (cells_of c.args.w.now) (triples c.args.vars.now) c.triple_get-v.ensures.is c.loop-i.invariant.2 (bound_at c.args.used c.requires.1 c.requires.0 c.loop-i.invariant.1 c.binding-t.ensures.0) (λ q. c.if-i-n.false (q ∙ sym c.requires.5)) (omega (arith, c.if-out-t.false)) c.binding-t.auto.out c.comma-a.ensures)
+loop-i-preserved c = (laid_after c.loop-i.invariant.0 c.binding-t.ensures.1, outside_then c.loop-i.invariant.1 c.binding-t.ensures.1, lined_more (triples c.args.table.now) (log_of c.args.used c.args.w.now) (pos_of c.args.w.now) (cells_of c.args.w.now) (triples c.args.vars.now) c.get-v.ensures.is c.loop-i.invariant.2 (bound_at c.args.used c.requires.1 c.requires.0 c.loop-i.invariant.1 c.binding-t.ensures.0) (λ q. omega (arith, q, c.requires.5)) (omega (arith, c.if-out-t.false)) c.binding-t.auto.out c.comma-a.ensures)
+
+pub get-v-requires-2-clause-inside : goal.get-v-requires-2-clause-inside
+get-v-requires-2-clause-inside c = omega (arith, c.requires.5, c.requires.6)
+
+pub binding-t-requires-2 : goal.binding-t-requires-2
+binding-t-requires-2 c = (c.loop-i.invariant.0, c.requires.1, shown_to c.args.used c.requires.1 c.requires.0 c.loop-i.invariant.1 c.requires.2, lined_print (triples c.args.table.now) (log_of c.args.used c.args.w.now) (pos_of c.args.w.now) (cells_of c.args.w.now) (omega (arith, c.requires.5, c.requires.6, c.requires.3.few)) (lined_at (triples c.args.table.now) (log_of c.args.used c.args.w.now) (pos_of c.args.w.now) (cells_of c.args.w.now) {j = c.args.n - 1} (omega arith) c.loop-i.invariant.2), low_name c.requires.3 c.get-v-2.ensures.is (omega (arith, c.requires.5, c.requires.6)))
+
+pub returns : goal.returns
+returns c = (lined_last (triples c.args.table.now) (log_of c.args.used c.args.w.now) (pos_of c.args.w.now) (cells_of c.args.w.now) (triples c.args.vars.now) c.get-v-2.ensures.is (lined_at (triples c.args.table.now) (log_of c.args.used c.args.w.now) (pos_of c.args.w.now) (cells_of c.args.w.now) {j = c.args.n - 1} (omega arith) c.loop-i.invariant.2) (bound_at c.args.used c.requires.1 c.requires.0 c.loop-i.invariant.1 c.binding-t-2.ensures.0) (omega (arith, c.requires.5, c.requires.6)), outside_then c.loop-i.invariant.1 c.binding-t-2.ensures.1)

@@ -7,6 +7,3 @@ use Rattle.answer_line.proofs.bindings.Given as goal
 
 abbrev pub invariant-loop-i : goal.invariant-loop-i
 invariant-loop-i l = Laid l.w × Answered l.initial.w l.w × Lined (triples l.table) (triples l.vars) (log_of l.used l.initial.w) (pos_of l.initial.w) (cells_of l.initial.w) l.initial.out l.write (numbers_of l.w) l.out l.i l.c l.a
-
-abbrev pub decreases-loop-i : goal.decreases-loop-i
-decreases-loop-i l = l.n - l.i

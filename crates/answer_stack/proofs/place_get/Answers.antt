@@ -3,9 +3,9 @@ use Rattle.answer_stack.specs.Slots.{places_of}
 use Rattle.answer_stack.proofs.Slots.{get_place}
 use Rattle.answer_stack.proofs.place_get.Goals as goal
 
-pub get4-requires : goal.get4-requires
-get4-requires c = get_place c.requires
+pub get-requires-clause-can : goal.get-requires-clause-can
+get-requires-clause-can c = get_place c.requires
 
 pub returns : goal.returns
 unfolding places_of
-returns c = c.get4.ensures
+returns c = c.get.ensures

@@ -3,8 +3,8 @@ use Rattle.answer_stack.specs.Slots.{put_place}
 use Rattle.answer_stack.proofs.Slots.{set_place}
 use Rattle.answer_stack.proofs.place_put.Goals as goal
 
-pub put4-requires : goal.put4-requires
-put4-requires c = set_place c.requires
+pub put-requires-clause-can : goal.put-requires-clause-can
+put-requires-clause-can c = set_place c.requires
 
 pub returns : goal.returns
-returns c = put_place c.requires.laid c.put4.ensures
+returns c = put_place c.requires.laid c.put.ensures

@@ -30,16 +30,16 @@ pub peek-v-requires : goal.peek-v-requires
 peek-v-requires c = (c.requires.0, c.requires.1)
 
 pub application-l-requires : goal.application-l-requires
-application-l-requires c = (c.requires.0, c.requires.1, c.requires.2, c.pos_get-p.ensures.small, c.requires.3, close_can c.requires.3 c.args.w.now _ c.begun_get-n.result c.args.count c.is_var.result (omega (arith, c.requires.5)) c.place_get-k.ensures.is c.begun_get-n.ensures.is c.pos_get-p.ensures.is c.peek-v.ensures c.is_var.ensures (c.if-not-is_var.true) c.requires.4)
+application-l-requires c = (c.requires.0, c.requires.1, c.requires.2, c.pos_get-p.ensures.small, c.requires.3, close_can c.requires.3 c.args.w.now _ c.begun_get-n.result c.args.at.count c.is_var.result (omega (arith, c.requires.5)) c.place_get-k.ensures.is c.begun_get-n.ensures.is c.pos_get-p.ensures.is c.peek-v.ensures c.is_var.ensures (c.if-not-is_var.true) c.requires.4)
 
 pub overflow_add-l : goal.overflow_add-l
-overflow_add-l c = omega (arith, close_small c.requires.3 c.args.w.now _ c.begun_get-n.result c.args.count c.is_var.result (omega (arith, c.requires.5)) c.place_get-k.ensures.is c.begun_get-n.ensures.is c.pos_get-p.ensures.is c.peek-v.ensures c.is_var.ensures c.requires.2 (c.if-not-is_var.true) c.requires.4 c.application-l.ensures)
+overflow_add-l c = omega (arith, close_small c.requires.3 c.args.w.now _ c.begun_get-n.result c.args.at.count c.is_var.result (omega (arith, c.requires.5)) c.place_get-k.ensures.is c.begun_get-n.ensures.is c.pos_get-p.ensures.is c.peek-v.ensures c.is_var.ensures c.requires.2 (c.if-not-is_var.true) c.requires.4 c.application-l.ensures)
 
 pub known_put-requires : goal.known_put-requires
-known_put-requires c = record { laid = c.requires.0; inside = omega (arith, top_low c.requires.3 _ (omega (arith, c.requires.5)) c.place_get-k.ensures.is c.requires.4, length_pos c.requires.0); small = close_small c.requires.3 c.args.w.now _ c.begun_get-n.result c.args.count c.is_var.result (omega (arith, c.requires.5)) c.place_get-k.ensures.is c.begun_get-n.ensures.is c.pos_get-p.ensures.is c.peek-v.ensures c.is_var.ensures c.requires.2 (c.if-not-is_var.true) c.requires.4 c.application-l.ensures }
+known_put-requires c = record { laid = c.requires.0; inside = omega (arith, top_low c.requires.3 _ (omega (arith, c.requires.5)) c.place_get-k.ensures.is c.requires.4, length_pos c.requires.0); small = close_small c.requires.3 c.args.w.now _ c.begun_get-n.result c.args.at.count c.is_var.result (omega (arith, c.requires.5)) c.place_get-k.ensures.is c.begun_get-n.ensures.is c.pos_get-p.ensures.is c.peek-v.ensures c.is_var.ensures c.requires.2 (c.if-not-is_var.true) c.requires.4 c.application-l.ensures }
 
 pub returns-then-not-is_var : goal.returns-then-not-is_var
-returns-then-not-is_var c = (did_close c.requires.3 c.args.w.now _ c.begun_get-n.result c.args.count c.is_var.result (omega (arith, c.requires.5)) c.place_get-k.ensures.is c.begun_get-n.ensures.is c.pos_get-p.ensures.is c.peek-v.ensures c.is_var.ensures c.requires.0 (omega (arith, top_low c.requires.3 _ (omega (arith, c.requires.5)) c.place_get-k.ensures.is c.requires.4, length_pos c.requires.0)) (c.if-not-is_var.true) c.application-l.ensures c.known_put.ensures, c.known_put.ensures.rest)
+returns-then-not-is_var c = (did_close c.requires.3 c.args.w.now _ c.begun_get-n.result c.args.at.count c.is_var.result (omega (arith, c.requires.5)) c.place_get-k.ensures.is c.begun_get-n.ensures.is c.pos_get-p.ensures.is c.peek-v.ensures c.is_var.ensures c.requires.0 (omega (arith, top_low c.requires.3 _ (omega (arith, c.requires.5)) c.place_get-k.ensures.is c.requires.4, length_pos c.requires.0)) (c.if-not-is_var.true) c.application-l.ensures c.known_put.ensures, c.known_put.ensures.rest)
 
 pub overflow_add-n : goal.overflow_add-n
 overflow_add-n c = omega (arith, c.begun_get-n.ensures.small)
@@ -48,7 +48,7 @@ pub begun_put-requires : goal.begun_put-requires
 begun_put-requires c = record { laid = c.requires.0; inside = omega (arith, c.requires.5, top_high c.requires.3 c.requires.5 c.requires.4, length_pos c.requires.0); small = begun_small c.args.used c.pos_get-p.result c.begun_get-n.result c.is_var.result c.requires.0 c.requires.1 c.peek-v.ensures c.is_var.ensures (c.if-not-is_var.false) }
 
 pub begin-requires : goal.begin-requires
-begin-requires c = (laid_after c.requires.0 c.begun_put.ensures.rest, can_begin_to c.args.used c.requires.1 c.requires.0 c.begun_put.ensures.rest (next_can c.requires.3 c.args.w.now _ c.begun_get-n.result c.args.count c.is_var.result (omega (arith, c.requires.5)) c.place_get-k.ensures.is c.begun_get-n.ensures.is c.pos_get-p.ensures.is c.peek-v.ensures c.is_var.ensures c.requires.0 (omega (arith, c.requires.5, top_high c.requires.3 c.requires.5 c.requires.4, length_pos c.requires.0)) (c.if-not-is_var.false) c.var_of.ensures c.begun_put.ensures c.requires.4))
+begin-requires c = (laid_after c.requires.0 c.begun_put.ensures.rest, can_begin_to c.args.used c.requires.1 c.requires.0 c.begun_put.ensures.rest (next_can c.requires.3 c.args.w.now _ c.begun_get-n.result c.args.at.count c.is_var.result (omega (arith, c.requires.5)) c.place_get-k.ensures.is c.begun_get-n.ensures.is c.pos_get-p.ensures.is c.peek-v.ensures c.is_var.ensures c.requires.0 (omega (arith, c.requires.5, top_high c.requires.3 c.requires.5 c.requires.4, length_pos c.requires.0)) (c.if-not-is_var.false) c.var_of.ensures c.begun_put.ensures c.requires.4))
 
 pub returns : goal.returns
-returns c = (did_next c.requires.3 c.args.w.now _ c.begun_get-n.result c.args.count c.is_var.result (omega (arith, c.requires.5)) c.place_get-k.ensures.is c.begun_get-n.ensures.is c.pos_get-p.ensures.is c.peek-v.ensures c.is_var.ensures c.requires.0 (omega (arith, c.requires.5, top_high c.requires.3 c.requires.5 c.requires.4, length_pos c.requires.0)) (c.if-not-is_var.false) c.var_of.ensures c.begun_put.ensures c.args.m (begun_at c.args.used c.requires.1 c.requires.0 c.begun_put.ensures.rest c.begin.ensures.0), counted_of (outside_then c.begun_put.ensures.rest c.begin.ensures.1))
+returns c = (did_next c.requires.3 c.args.w.now _ c.begun_get-n.result c.args.at.count c.is_var.result (omega (arith, c.requires.5)) c.place_get-k.ensures.is c.begun_get-n.ensures.is c.pos_get-p.ensures.is c.peek-v.ensures c.is_var.ensures c.requires.0 (omega (arith, c.requires.5, top_high c.requires.3 c.requires.5 c.requires.4, length_pos c.requires.0)) (c.if-not-is_var.false) c.var_of.ensures c.begun_put.ensures c.args.m (begun_at c.args.used c.requires.1 c.requires.0 c.begun_put.ensures.rest c.begin.ensures.0), counted_of (outside_then c.begun_put.ensures.rest c.begin.ensures.1))

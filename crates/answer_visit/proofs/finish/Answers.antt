@@ -8,17 +8,17 @@ use Rattle.answer_known.specs.Known.{known_of, same_counted}
 use Rattle.answer_visit.proofs.Searching.{search_start, search_can, search_more, search_less, search_done, shown_to, can_turn_to, turned_at}
 use Rattle.answer_visit.proofs.finish.Goals as goal
 
-pub loop-h-init : goal.loop-h-init
-loop-h-init c = (c.requires.0, same_counted, search_start (triples c.args.table.now) (log_of c.args.used c.args.w.now) (pos_of c.args.w.now) (cells_of c.args.w.now) (places_of c.args.w.now) (begun_of c.args.w.now) (numbers_of c.args.w.now) (known_of c.args.w.now) c.args.high c.args.count c.args.m)
+pub loop-stand-init : goal.loop-stand-init
+loop-stand-init c = (c.requires.0, same_counted, search_start (triples c.args.table.now) (log_of c.args.used c.args.w.now) (pos_of c.args.w.now) (cells_of c.args.w.now) (places_of c.args.w.now) (begun_of c.args.w.now) (numbers_of c.args.w.now) (known_of c.args.w.now) c.args.at.high c.args.at.count c.args.m)
 
-pub behind-t-requires : goal.behind-t-requires
-behind-t-requires c = (c.loop-h.invariant.0, c.requires.1, c.requires.2, shown_to c.args.used c.requires.1 c.requires.0 c.loop-h.invariant.1 c.requires.3, can_turn_to c.args.used c.requires.1 c.requires.0 c.loop-h.invariant.1 (search_can (triples c.args.table.now) (log_of c.args.used c.args.w.now) (pos_of c.args.w.now) (cells_of c.args.w.now) c.requires.4 c.loop-h.invariant.2), omega arith)
+pub behind-stand-requires : goal.behind-stand-requires
+behind-stand-requires c = (c.loop-stand.invariant.0, c.requires.1, c.requires.2, shown_to c.args.used c.requires.1 c.requires.0 c.loop-stand.invariant.1 c.requires.3, can_turn_to c.args.used c.requires.1 c.requires.0 c.loop-stand.invariant.1 (search_can (triples c.args.table.now) (log_of c.args.used c.args.w.now) (pos_of c.args.w.now) (cells_of c.args.w.now) c.requires.4 c.loop-stand.invariant.2), omega arith)
 
-pub loop-h-smaller : goal.loop-h-smaller
-loop-h-smaller c = search_less (triples c.args.table.now) (log_of c.args.used c.args.w.now) (pos_of c.args.w.now) (cells_of c.args.w.now) c.requires.4 c.loop-h.invariant.2 (turned_at c.args.used c.requires.1 c.requires.0 c.loop-h.invariant.1 c.behind-t.ensures.0)
+pub loop-stand-smaller : goal.loop-stand-smaller
+loop-stand-smaller c = search_less (triples c.args.table.now) (log_of c.args.used c.args.w.now) (pos_of c.args.w.now) (cells_of c.args.w.now) c.requires.4 c.loop-stand.invariant.2 (turned_at c.args.used c.requires.1 c.requires.0 c.loop-stand.invariant.1 c.behind-stand.ensures.0)
 
-pub loop-h-preserved : goal.loop-h-preserved
-loop-h-preserved c = (laid_after c.loop-h.invariant.0 c.behind-t.ensures.1, outside_then c.loop-h.invariant.1 c.behind-t.ensures.1, search_more (triples c.args.table.now) (log_of c.args.used c.args.w.now) (pos_of c.args.w.now) (cells_of c.args.w.now) c.loop-h.invariant.2 (turned_at c.args.used c.requires.1 c.requires.0 c.loop-h.invariant.1 c.behind-t.ensures.0))
+pub loop-stand-preserved : goal.loop-stand-preserved
+loop-stand-preserved c = (laid_after c.loop-stand.invariant.0 c.behind-stand.ensures.1, outside_then c.loop-stand.invariant.1 c.behind-stand.ensures.1, search_more (triples c.args.table.now) (log_of c.args.used c.args.w.now) (pos_of c.args.w.now) (cells_of c.args.w.now) c.loop-stand.invariant.2 (turned_at c.args.used c.requires.1 c.requires.0 c.loop-stand.invariant.1 c.behind-stand.ensures.0))
 
 pub returns : goal.returns
-returns c = (search_done (triples c.args.table.now) (log_of c.args.used c.args.w.now) (pos_of c.args.w.now) (cells_of c.args.w.now) c.loop-h.invariant.2 (omega arith), c.loop-h.invariant.1)
+returns c = (search_done (triples c.args.table.now) (log_of c.args.used c.args.w.now) (pos_of c.args.w.now) (cells_of c.args.w.now) c.loop-stand.invariant.2 (omega arith), c.loop-stand.invariant.1)

@@ -8,8 +8,8 @@ use Rattle.answer_turn.specs.Turning.{term_in}
 use Rattle.answer_visit.proofs.Searching.{Searching}
 use Rattle.answer_visit.proofs.finish.Given as goal
 
-abbrev pub invariant-loop-h : goal.invariant-loop-h
-invariant-loop-h l = Laid l.w × Counted l.initial.w l.w × Searching (triples l.table) (log_of l.used l.initial.w) (pos_of l.initial.w) (cells_of l.initial.w) (places_of l.initial.w) (begun_of l.initial.w) (numbers_of l.initial.w) (known_of l.initial.w) l.high l.count l.m (places_of l.w) (begun_of l.w) (numbers_of l.w) (known_of l.w) l.h l.c
+abbrev pub invariant-loop-stand : goal.invariant-loop-stand
+invariant-loop-stand l = Laid l.w × Counted l.initial.w l.w × Searching (triples l.table) (log_of l.used l.initial.w) (pos_of l.initial.w) (cells_of l.initial.w) (places_of l.initial.w) (begun_of l.initial.w) (numbers_of l.initial.w) (known_of l.initial.w) l.fn.at.high l.fn.at.count l.m (places_of l.w) (begun_of l.w) (numbers_of l.w) (known_of l.w) l.stand.high l.stand.count
 
-abbrev pub decreases-loop-h : goal.decreases-loop-h
-decreases-loop-h l = turns (term_in (triples l.table) (log_of l.used l.initial.w) (pos_of l.initial.w) (cells_of l.initial.w)) (lefts (log_of l.used l.initial.w) (pos_of l.initial.w) (places_of l.w) (begun_of l.w) l.h)
+abbrev pub decreases-loop-stand : goal.decreases-loop-stand
+decreases-loop-stand l = turns (term_in (triples l.table) (log_of l.used l.initial.w) (pos_of l.initial.w) (cells_of l.initial.w)) (lefts (log_of l.used l.initial.w) (pos_of l.initial.w) (places_of l.w) (begun_of l.w) l.stand.high)

@@ -1,24 +1,18 @@
--- The tests in their order. Assumes nothing.
+-- Behind the head of the call the store holds a state. Assumes nothing.
 use native.Mathlib.Omega.{arith}
 use lib.ListN.{length}
-use Rattle.call_slices.proofs.Slices.{store_short, working_short, long_enough, none_formed, some_formed}
-use Rattle.call_answer.proofs.Outcomes.{to_8, to_9, to_answer}
+use Rattle.std.proofs.lemmas.Result.{err_from_is_err_and}
+use Rattle.call_slices.proofs.Slices.{goes_on}
+use Rattle.call_answer.proofs.Outcomes.{to_refused, to_answer}
 use Rattle.call_answer.proofs.asked.Goals as goal
 
-pub returns-then-store-lt245853 : goal.returns-then-store-lt245853
-returns-then-store-lt245853 c = to_8 c.args.store.now (length c.args.work.now) c.args.number _ (store_short c.args.store.now (length c.args.work.now) (omega arith))
-
-pub returns-then-work-lt524288 : goal.returns-then-work-lt524288
-returns-then-work-lt524288 c = to_8 c.args.store.now (length c.args.work.now) c.args.number _ (working_short c.args.store.now (length c.args.work.now) (omega arith) (omega arith))
-
-pub formed-requires : goal.formed-requires
-formed-requires c = record { store = omega arith; working = omega arith }
+pub returns-in_err-formed_or_refused : goal.returns-in_err-formed_or_refused
+returns-in_err-formed_or_refused c =
+    let p = err_from_is_err_and c.from_residual.result c.from_residual.ensures.1 in
+    rw (p.1, p.2) (to_refused c.args.store.now (length c.args.work.now) c.args.number _ _ c.in_err-formed_or_refused.ensures)
 
 pub of_state-requires : goal.of_state-requires
-of_state-requires c = (record { long = omega (arith, c.formed.auto.work) }, omega arith, some_formed c.args.store.now c.formed.result c.if-formed.true c.formed.ensures)
-
-pub returns-then-formed : goal.returns-then-formed
-returns-then-formed c = to_answer c.args.store.now (length c.args.work.now) c.args.number _ _ _ (long_enough c.args.store.now (length c.args.work.now) (omega arith) (omega arith)) (some_formed c.args.store.now c.formed.result c.if-formed.true c.formed.ensures) c.of_state.ensures
+of_state-requires c = (record { long = omega (arith, c.formed_or_refused.auto.work, (goes_on c.args.store.now (length c.args.work.now) _ c.in_ok-formed_or_refused.ensures).working) }, omega (arith, (goes_on c.args.store.now (length c.args.work.now) _ c.in_ok-formed_or_refused.ensures).store), (goes_on c.args.store.now (length c.args.work.now) _ c.in_ok-formed_or_refused.ensures).state)
 
 pub returns : goal.returns
-returns c = to_9 c.args.store.now (length c.args.work.now) c.args.number _ (long_enough c.args.store.now (length c.args.work.now) (omega arith) (omega arith)) (none_formed c.args.store.now c.formed.result c.if-formed.false c.formed.ensures)
+returns c = to_answer c.args.store.now (length c.args.work.now) c.args.number _ _ _ (goes_on c.args.store.now (length c.args.work.now) _ c.in_ok-formed_or_refused.ensures).long (goes_on c.args.store.now (length c.args.work.now) _ c.in_ok-formed_or_refused.ensures).state c.of_state.ensures

@@ -1,8 +1,9 @@
 -- The working slice is made zero at the end. Assumes nothing.
-use mathlib.Core.Path.{ap, ◌∙◌}
-use Prim.Native.Nat.{ℕ}
-use lib.ListN.{replicate}
+use Rattle.std.proofs.Common.{rules}
 use Rattle.call_state.proofs.akl_state.Goals as goal
 
-pub returns : goal.returns
-returns c = record { state = c.asked-x.ensures; working = c.fill_zero.ensures ∙ ap (λ (n : ℕ). replicate n 0) c.asked-x.auto.work }
+pub returns-in-Ok : goal.returns-in-Ok
+returns-in-Ok c = record { state = c.in-Ok.ensures; working = search rules }
+
+pub returns-in-Err : goal.returns-in-Err
+returns-in-Err c = record { state = rw c.number.ensures c.in-Err.ensures; working = search rules }

@@ -15,20 +15,14 @@ loop-i-init c = (c.requires.0, same, omega arith, c.requires.2)
 pub get-w-requires : goal.get-w-requires
 get-w-requires c = omega (arith, c.count-n.ensures.is)
 
-pub step-g-requires : goal.step-g-requires
-step-g-requires c = (record { laid = c.loop-i.invariant.0; short = c.requires.1; inside = omega (arith, c.count-n.ensures.is); holding = c.loop-i.invariant.3 }, c.get-w.ensures)
+pub step-requires : goal.step-requires
+step-requires c = (record { laid = c.loop-i.invariant.0; short = c.requires.1; inside = omega (arith, c.count-n.ensures.is); holding = c.loop-i.invariant.3 }, c.get-w.ensures)
 
-pub overflow_add-i : goal.overflow_add-i
-overflow_add-i c = omega (arith, c.count-n.ensures.small)
-
-pub returns-in-Refused : goal.returns-in-Refused
-returns-in-Refused c = (stopped c.step-g.ensures c.in-Refused.is, outside_then c.loop-i.invariant.1 c.step-g.ensures.rest)
-
-pub loop-i-smaller : goal.loop-i-smaller
-loop-i-smaller c = omega arith
+pub returns-in_default : goal.returns-in_default
+returns-in_default c = (stopped c.step.ensures c.in_default.is, outside_then c.loop-i.invariant.1 c.step.ensures.rest)
 
 pub loop-i-preserved : goal.loop-i-preserved
-loop-i-preserved c = (laid_after c.loop-i.invariant.0 c.step-g.ensures.rest, outside_then c.loop-i.invariant.1 c.step-g.ensures.rest, omega arith, went_on _ c.step-g.ensures c.in-On.is)
+loop-i-preserved c = (laid_after c.loop-i.invariant.0 c.step.ensures.rest, outside_then c.loop-i.invariant.1 c.step.ensures.rest, omega arith, went_on _ c.step.ensures c.in-Some.is)
 
 pub returns : goal.returns
 returns c = (ends (omega (arith, c.count-n.ensures.is)) c.loop-i.invariant.3, c.loop-i.invariant.1)

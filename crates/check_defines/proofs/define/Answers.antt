@@ -23,17 +23,17 @@ is_def-again-requires c = c.requires
 pub returns-then-again : goal.returns-then-again
 returns-then-again c = defined_before _ _ _ _ _ (sym c.is_def-again.ensures ∙ c.if-again.true)
 
-pub get2-a-requires : goal.get2-a-requires
-get2-a-requires c = get_arity c.requires (within c.args.w.now c.args.m c.args.p c.args.k c.args.c (sym c.is_pred-known.ensures ∙ c.if-not-known.false))
+pub get-a-requires-clause-can : goal.get-a-requires-clause-can
+get-a-requires-clause-can c = get_arity c.requires (within c.args.w.now c.args.m c.args.p c.args.k c.args.c (sym c.is_pred-known.ensures ∙ c.if-not-known.false))
 
 pub power-q-requires : goal.power-q-requires
 power-q-requires c = omega arith
 
 pub overflow_add-a : goal.overflow_add-a
-overflow_add-a c = omega (arith, (can_mark c.args.w.now c.args.m c.args.p c.args.k c.args.c _ _ c.requires (within c.args.w.now c.args.m c.args.p c.args.k c.args.c (sym c.is_pred-known.ensures ∙ c.if-not-known.false)) (omega arith) (sym c.is_def-again.ensures ∙ c.if-again.false) c.get2-a.ensures c.power-q.ensures).small)
+overflow_add-a c = omega (arith, (can_mark c.args.w.now c.args.m c.args.p c.args.k c.args.c _ _ c.requires (within c.args.w.now c.args.m c.args.p c.args.k c.args.c (sym c.is_pred-known.ensures ∙ c.if-not-known.false)) (omega arith) (sym c.is_def-again.ensures ∙ c.if-again.false) c.get-a.ensures c.power-q.ensures).small)
 
-pub put2-requires : goal.put2-requires
-put2-requires c = can_mark c.args.w.now c.args.m c.args.p c.args.k c.args.c _ _ c.requires (within c.args.w.now c.args.m c.args.p c.args.k c.args.c (sym c.is_pred-known.ensures ∙ c.if-not-known.false)) (omega arith) (sym c.is_def-again.ensures ∙ c.if-again.false) c.get2-a.ensures c.power-q.ensures
+pub put-requires-clause-can : goal.put-requires-clause-can
+put-requires-clause-can c = can_mark c.args.w.now c.args.m c.args.p c.args.k c.args.c _ _ c.requires (within c.args.w.now c.args.m c.args.p c.args.k c.args.c (sym c.is_pred-known.ensures ∙ c.if-not-known.false)) (omega arith) (sym c.is_def-again.ensures ∙ c.if-again.false) c.get-a.ensures c.power-q.ensures
 
 pub returns : goal.returns
-returns c = defines _ _ _ _ _ _ _ _ c.requires (sym c.is_pred-known.ensures ∙ c.if-not-known.false) (omega arith) (omega arith) (sym c.is_def-again.ensures ∙ c.if-again.false) c.get2-a.ensures c.power-q.ensures c.put2.ensures
+returns c = defines _ _ _ _ _ _ _ _ c.requires (sym c.is_pred-known.ensures ∙ c.if-not-known.false) (omega arith) (omega arith) (sym c.is_def-again.ensures ∙ c.if-again.false) c.get-a.ensures c.power-q.ensures c.put.ensures

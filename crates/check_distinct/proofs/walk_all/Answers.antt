@@ -10,19 +10,13 @@ pub loop-p-init : goal.loop-p-init
 loop-p-init c = going_none c.requires.0 c.requires.2 c.requires.3
 
 pub walk-requires : goal.walk-requires
-walk-requires c = (c.loop-p.invariant.laid, c.requires.1, c.loop-p.invariant.linked, c.loop-p.invariant.most, omega (arith, c.triple_count-n.ensures.is))
+walk-requires c = (c.loop-p.invariant.laid, c.requires.1, c.loop-p.invariant.linked, c.loop-p.invariant.most, omega (arith, c.count-n.ensures.is))
 
 pub returns-then-not-walk : goal.returns-then-not-walk
 returns-then-not-walk c = (walked_no (triples c.args.cells.now) (stamps_of c.walk.new.w) c.loop-p.p c.walk.result (c.if-not-walk.true) c.walk.ensures.0, outside_then c.loop-p.invariant.rest c.walk.ensures.1)
-
-pub overflow_add-p : goal.overflow_add-p
-overflow_add-p c = omega (arith, c.triple_count-n.ensures.small)
-
-pub loop-p-smaller : goal.loop-p-smaller
-loop-p-smaller c = omega arith
 
 pub loop-p-preserved : goal.loop-p-preserved
 loop-p-preserved c = going_more c.loop-p.invariant (omega arith) (walked_yes (triples c.args.cells.now) (stamps_of c.walk.new.w) c.loop-p.p c.walk.result (c.if-not-walk.false) c.walk.ensures.0) c.walk.ensures.1
 
 pub returns : goal.returns
-returns c = (all_apart c.loop-p.p c.requires.1 (omega (arith, c.triple_count-n.ensures.is)) c.loop-p.invariant.differ, c.loop-p.invariant.rest)
+returns c = (all_apart c.loop-p.p c.requires.1 (omega (arith, c.count-n.ensures.is)) c.loop-p.invariant.differ, c.loop-p.invariant.rest)

@@ -19,10 +19,10 @@ pub returns-in_default : goal.returns-in_default
 returns-in_default c = mark_end (seen_last (words c.args.ws.now) c.loop-j.j c.get-w.result (omega (arith, c.count-n.ensures.is)) c.get-w.ensures c.variable.ensures c.in_default.is) c.loop-j.invariant.2 c.loop-j.invariant.1
 
 pub name_get-v-requires : goal.name_get-v-requires
-name_get-v-requires c = record { laid = c.loop-j.invariant.0; inside = seen_small c.get-w.result c.variable.ensures c.in-One.x c.in-One.is c.get-w.ensures.small }
+name_get-v-requires c = record { laid = c.loop-j.invariant.0; inside = seen_small c.get-w.result c.variable.ensures c.in-Some.x c.in-Some.is c.get-w.ensures.small }
 
 pub returns-then-v-eq1 : goal.returns-then-v-eq1
-returns-then-v-eq1 c = mark_old c.name_get-v.result (seen_first (words c.args.ws.now) c.loop-j.j c.get-w.result (omega (arith, c.count-n.ensures.is)) c.get-w.ensures c.variable.ensures c.in-One.x c.in-One.is) c.name_get-v.ensures.is c.if-v-eq1.true c.loop-j.invariant.2 c.loop-j.invariant.1
+returns-then-v-eq1 c = mark_old c.name_get-v.result (seen_first (words c.args.ws.now) c.loop-j.j c.get-w.result (omega (arith, c.count-n.ensures.is)) c.get-w.ensures c.variable.ensures c.in-Some.x c.in-Some.is) c.name_get-v.ensures.is c.if-v-eq1.true c.loop-j.invariant.2 c.loop-j.invariant.1
 
 pub position-g-requires : goal.position-g-requires
 position-g-requires c = (c.requires.1, omega (arith, c.name_get-v.ensures.small))
@@ -34,16 +34,10 @@ pub overflow_add-g : goal.overflow_add-g
 overflow_add-g c = omega (arith, c.position-g.ensures.1)
 
 pub name_put-requires : goal.name_put-requires
-name_put-requires c = record { laid = c.loop-j.invariant.0; inside = seen_small c.get-w.result c.variable.ensures c.in-One.x c.in-One.is c.get-w.ensures.small; small = omega (arith, c.position-g.ensures.1) }
-
-pub overflow_add-j : goal.overflow_add-j
-overflow_add-j c = omega (arith, c.count-n.ensures.small)
-
-pub loop-j-smaller : goal.loop-j-smaller
-loop-j-smaller c = omega arith
+name_put-requires c = record { laid = c.loop-j.invariant.0; inside = seen_small c.get-w.result c.variable.ensures c.in-Some.x c.in-Some.is c.get-w.ensures.small; small = omega (arith, c.position-g.ensures.1) }
 
 pub loop-j-preserved : goal.loop-j-preserved
-loop-j-preserved c = (laid_after c.loop-j.invariant.0 c.name_put.ensures.rest, named_then c.loop-j.invariant.1 c.name_put.ensures, mark_on c.name_get-v.result c.position-g.result c.loop-j.invariant.0 (seen_first (words c.args.ws.now) c.loop-j.j c.get-w.result (omega (arith, c.count-n.ensures.is)) c.get-w.ensures c.variable.ensures c.in-One.x c.in-One.is) (seen_small c.get-w.result c.variable.ensures c.in-One.x c.in-One.is c.get-w.ensures.small) c.name_get-v.ensures.is c.if-v-eq1.false c.position-g.ensures.0 c.name_put.ensures c.loop-j.invariant.2)
+loop-j-preserved c = (laid_after c.loop-j.invariant.0 c.name_put.ensures.rest, named_then c.loop-j.invariant.1 c.name_put.ensures, mark_on c.name_get-v.result c.position-g.result c.loop-j.invariant.0 (seen_first (words c.args.ws.now) c.loop-j.j c.get-w.result (omega (arith, c.count-n.ensures.is)) c.get-w.ensures c.variable.ensures c.in-Some.x c.in-Some.is) (seen_small c.get-w.result c.variable.ensures c.in-Some.x c.in-Some.is c.get-w.ensures.small) c.name_get-v.ensures.is c.if-v-eq1.false c.position-g.ensures.0 c.name_put.ensures c.loop-j.invariant.2)
 
 pub returns : goal.returns
 returns c = mark_past (omega (arith, c.count-n.ensures.is)) c.loop-j.invariant.2 c.loop-j.invariant.1

@@ -1,4 +1,3 @@
-use Prim.Native.Nat.{◌-◌}
 use Rattle.mem_words.specs.Words.{words}
 use Rattle.work_tables.specs.Tables.{Laid}
 use Rattle.check_marks.specs.Marking.{Marking, Named}
@@ -6,6 +5,3 @@ use Rattle.check_marks.proofs.mark.Given as goal
 
 abbrev pub invariant-loop-j : goal.invariant-loop-j
 invariant-loop-j l = Laid l.work × Named l.initial.work l.work × Marking (words l.ws) l.initial.work l.at l.l l.i l.work l.j
-
-abbrev pub decreases-loop-j : goal.decreases-loop-j
-decreases-loop-j l = l.n - l.j

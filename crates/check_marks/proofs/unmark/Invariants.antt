@@ -1,4 +1,3 @@
-use Prim.Native.Nat.{◌-◌}
 use Rattle.mem_words.specs.Words.{words}
 use Rattle.work_tables.specs.Tables.{Laid}
 use Rattle.check_marks.specs.Marking.{Unmarking, Named}
@@ -6,6 +5,3 @@ use Rattle.check_marks.proofs.unmark.Given as goal
 
 abbrev pub invariant-loop-j : goal.invariant-loop-j
 invariant-loop-j l = Laid l.work × Named l.initial.work l.work × Unmarking (words l.ws) l.initial.work l.at l.work l.j
-
-abbrev pub decreases-loop-j : goal.decreases-loop-j
-decreases-loop-j l = l.n - l.j

@@ -8,9 +8,6 @@ use Rattle.check_shapes.specs.declared.Move.TheVariants.{Stay}
 use Rattle.check_shapes.specs.Moving.{both_yes, both_no}
 use Rattle.check_moves.proofs.hidden.Goals as goal
 
-pub overflow_add-l : goal.overflow_add-l
-overflow_add-l c = omega (arith, c.requires.0, c.requires.1)
-
 pub returns-then-l-lt4194304 : goal.returns-then-l-lt4194304
 returns-then-l-lt4194304 c = both_yes (leb 1 c.args.v) (ltb (c.args.n + c.args.v) 4194304) _ _ (lt-ltb (c.args.n + c.args.v) 4194304 (omega arith)) c.when.ensures
 

@@ -17,17 +17,11 @@ loop-i-init c = (omega arith, begins c.args.q c.args.next (words c.args.ws.now) 
 pub get-w-requires : goal.get-w-requires
 get-w-requires c = omega (arith, c.count-n.ensures.is)
 
-pub overflow_add-i : goal.overflow_add-i
-overflow_add-i c = omega (arith, c.count-n.ensures.small)
-
 pub below-requires : goal.below-requires
 below-requires c = tt
 
 pub returns-then-not-below : goal.returns-then-not-below
 returns-then-not-below c = refuses (omega (arith, c.count-n.ensures.is)) c.loop-i.invariant.1 c.get-w.ensures (sym c.below.ensures ∙ c.if-not-below.true)
-
-pub loop-i-smaller : goal.loop-i-smaller
-loop-i-smaller c = omega arith
 
 pub loop-i-preserved : goal.loop-i-preserved
 loop-i-preserved c = (omega arith, goes (omega (arith, c.count-n.ensures.is)) c.loop-i.invariant.1 c.get-w.ensures (sym c.below.ensures ∙ c.if-not-below.false))

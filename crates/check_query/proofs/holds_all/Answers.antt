@@ -11,17 +11,8 @@ use Rattle.check_query.proofs.holds_all.Goals as goal
 pub loop-x-init : goal.loop-x-init
 loop-x-init c = (omega arith, try_first (λ y. elem y (frees (drop c.args.i (words c.args.ws.now)))) c.args.q)
 
-pub holds-requires : goal.holds-requires
-holds-requires c = omega arith
-
 pub returns-then-not-holds : goal.returns-then-not-holds
 returns-then-not-holds c = try_failed (λ y. elem y (frees (drop c.args.i (words c.args.ws.now)))) c.args.q c.loop-x.x (omega arith) c.loop-x.invariant.1 (sym c.holds.ensures ∙ c.if-not-holds.true)
-
-pub overflow_add-x : goal.overflow_add-x
-overflow_add-x c = omega arith
-
-pub loop-x-smaller : goal.loop-x-smaller
-loop-x-smaller c = omega arith
 
 pub loop-x-preserved : goal.loop-x-preserved
 loop-x-preserved c = (omega arith, try_on (λ y. elem y (frees (drop c.args.i (words c.args.ws.now)))) c.args.q c.loop-x.x (omega arith) c.loop-x.invariant.1 (sym c.holds.ensures ∙ c.if-not-holds.false))

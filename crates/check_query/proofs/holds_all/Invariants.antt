@@ -1,4 +1,4 @@
-use Prim.Native.Nat.{◌-◌, ◌≤◌}
+use Prim.Native.Nat.{◌≤◌}
 use lib.ListN.{drop}
 use Rattle.constraint.specs.Solve.{elem}
 use Rattle.mem_words.specs.Words.{words}
@@ -8,6 +8,3 @@ use Rattle.check_query.proofs.holds_all.Given as goal
 
 abbrev pub invariant-loop-x : goal.invariant-loop-x
 invariant-loop-x l = (l.x ≤ l.q) × Trying (λ y. elem y (frees (drop l.i (words l.ws)))) l.q l.x
-
-abbrev pub decreases-loop-x : goal.decreases-loop-x
-decreases-loop-x l = l.q - l.x

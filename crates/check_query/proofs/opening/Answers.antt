@@ -1,6 +1,5 @@
 -- By cases. Assumes nothing.
 use mathlib.Core.Path.{sym, ◌∙◌}
-use native.Mathlib.Omega.{arith}
 use lib.ListN.{drop}
 use Rattle.mem_words.specs.Words.{words}
 use Rattle.check_words.specs.Frees.{is_and}
@@ -12,12 +11,6 @@ returns-then-not-boxes c = no_box c.args.q (is_and c.args.k) c.args.d (drop c.ar
 
 pub returns-then-d-ne0 : goal.returns-then-d-ne0
 returns-then-d-ne0 c = inner_box c.args.q (is_and c.args.k) c.args.d (drop c.args.i (words c.args.ws.now)) c.if-d-ne0.true
-
-pub overflow_add-i : goal.overflow_add-i
-overflow_add-i c = omega (arith, c.requires.1)
-
-pub holds_all-requires : goal.holds_all-requires
-holds_all-requires c = c.requires.0
 
 pub returns : goal.returns
 returns c = c.holds_all.ensures ∙ outer_box c.args.q (is_and c.args.k) c.args.d (words c.args.ws.now) c.args.i (sym c.boxes.ensures ∙ c.if-not-boxes.false) c.if-d-ne0.false

@@ -6,9 +6,6 @@ use Rattle.mem_words.specs.Words.{words}
 use Rattle.check_words.specs.Query.{word_passes}
 use Rattle.check_query.proofs.passes.Goals as goal
 
-pub opening-requires : goal.opening-requires
-opening-requires c = c.requires
-
 pub returns-in-Free : goal.returns-in-Free
 returns-in-Free c = c.local.ensures ∙ sym (ap (λ (w : Word). word_passes c.args.q c.args.l c.args.d w (drop c.args.i (words c.args.ws.now))) c.in-Free.is)
 

@@ -1,19 +1,12 @@
 -- By cases. Assumes nothing.
-use native.Mathlib.Omega.{arith}
 use Rattle.check_query.specs.Steps.{rise_box, rise_none, rise_some}
 use Rattle.check_query.proofs.rise.Goals as goal
-
-pub overflow_add-result : goal.overflow_add-result
-overflow_add-result c = omega arith
 
 pub returns-then-b : goal.returns-then-b
 returns-then-b c = rise_box c.args.b c.args.d c.if-b.true
 
 pub returns-then-d-eq0 : goal.returns-then-d-eq0
 returns-then-d-eq0 c = rise_none c.args.b c.args.d c.if-b.false c.if-d-eq0.true
-
-pub overflow_add-result-2 : goal.overflow_add-result-2
-overflow_add-result-2 c = omega arith
 
 pub returns : goal.returns
 returns c = rise_some c.args.b c.args.d c.if-b.false c.if-d-eq0.false

@@ -11,20 +11,8 @@ loop-j-init c = comparing_all c.requires.1 refl
 pub returns-then-k-eq0 : goal.returns-then-k-eq0
 returns-then-k-eq0 c = comparing_short c.loop-j.invariant c.if-k-eq0.true (omega arith)
 
-pub byte_of-requires : goal.byte_of-requires
-byte_of-requires c = c.loop-j.invariant.node
-
-pub bounds-word-j : goal.bounds-word-j
-bounds-word-j c = omega (arith, c.loop-j.invariant.left)
-
 pub returns-then-byte_of-word : goal.returns-then-byte_of-word
 returns-then-byte_of-word c = comparing_other (c.loop-j.j - 1) c.requires.0 (omega arith) c.loop-j.invariant (omega arith) c.byte_of.ensures c.if-byte_of-word.true
-
-pub parent_of-k-requires : goal.parent_of-k-requires
-parent_of-k-requires c = c.loop-j.invariant.node
-
-pub loop-j-smaller : goal.loop-j-smaller
-loop-j-smaller c = omega arith
 
 pub loop-j-preserved : goal.loop-j-preserved
 loop-j-preserved c = comparing_more (c.loop-j.j - 1) c.requires.0 (omega arith) c.loop-j.invariant (omega arith) c.byte_of.ensures c.parent_of-k.ensures c.if-byte_of-word.false

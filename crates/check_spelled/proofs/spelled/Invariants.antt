@@ -4,6 +4,3 @@ use Rattle.check_spelled.proofs.spelled.Given as goal
 
 abbrev pub invariant-loop-j : goal.invariant-loop-j
 invariant-loop-j l = Comparing (triples l.cells) l.word l.i l.k l.j
-
-abbrev pub decreases-loop-j : goal.decreases-loop-j
-decreases-loop-j l = l.j

@@ -2,8 +2,8 @@
 use Rattle.check_vartables.specs.Tables.{set_link, put_link}
 use Rattle.check_vartables.proofs.link_put.Goals as goal
 
-pub put2-requires : goal.put2-requires
-put2-requires c = set_link c.requires
+pub put-requires-clause-can : goal.put-requires-clause-can
+put-requires-clause-can c = set_link c.requires
 
 pub returns : goal.returns
-returns c = put_link c.requires.laid c.put2.ensures
+returns c = put_link c.requires.laid c.put.ensures

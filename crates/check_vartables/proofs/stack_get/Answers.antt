@@ -2,9 +2,9 @@
 use Rattle.check_vartables.specs.Tables.{stack_of, get_stack}
 use Rattle.check_vartables.proofs.stack_get.Goals as goal
 
-pub get2-requires : goal.get2-requires
-get2-requires c = get_stack c.requires
+pub get-requires-clause-can : goal.get-requires-clause-can
+get-requires-clause-can c = get_stack c.requires
 
 pub returns : goal.returns
 unfolding stack_of
-returns c = c.get2.ensures
+returns c = c.get.ensures

@@ -6,17 +6,8 @@ use Rattle.check_zeros.proofs.front.Goals as goal
 pub loop-i-init : goal.loop-i-init
 loop-i-init c = zero_none c.args.b.now c.args.a c.args.e c.requires.1
 
-pub overflow_sub-e : goal.overflow_sub-e
-overflow_sub-e c = c.loop-i.invariant.high
-
-pub tally-requires : goal.tally-requires
-tally-requires c = record { fits = omega (arith, c.requires.0.fits, c.requires.1) }
-
 pub returns-then-tally-ne0 : goal.returns-then-tally-ne0
 returns-then-tally-ne0 c = c.loop-i.invariant
-
-pub overflow_add-i : goal.overflow_add-i
-overflow_add-i c = omega (arith, c.requires.0.fits, c.requires.1)
 
 pub loop-i-smaller : goal.loop-i-smaller
 loop-i-smaller c = omega arith

@@ -9,21 +9,6 @@ use Rattle.check_zeros.proofs.tally.Goals as goal
 pub loop-k-init : goal.loop-k-init
 loop-k-init c = (omega arith, tallied_none c.args.b.now c.args.i)
 
-pub overflow_add-i : goal.overflow_add-i
-overflow_add-i c = omega (arith, c.requires.fits)
-
-pub bounds-b-i : goal.bounds-b-i
-bounds-b-i c = omega (arith, c.requires.fits)
-
-pub overflow_add-s : goal.overflow_add-s
-overflow_add-s c = omega (arith, c.loop-k.invariant.1.small, c.nonzero-s.ensures.small)
-
-pub overflow_add-k : goal.overflow_add-k
-overflow_add-k c = omega arith
-
-pub loop-k-smaller : goal.loop-k-smaller
-loop-k-smaller c = omega arith
-
 pub loop-k-preserved : goal.loop-k-preserved
 loop-k-preserved c = (omega arith, tallied_more c.loop-k.invariant.1 refl c.nonzero-s.ensures)
 

@@ -4,23 +4,11 @@ use native.Mathlib.Omega.{arith}
 use Rattle.check_zeros.proofs.Zeroing.{zero_more, zero_all}
 use Rattle.check_zeros.proofs.zeros.Goals as goal
 
-pub front-i-requires : goal.front-i-requires
-front-i-requires c = c.requires
-
 pub loop-i-init : goal.loop-i-init
-loop-i-init c = c.front-i.ensures
-
-pub bounds-b-i : goal.bounds-b-i
-bounds-b-i c = omega (arith, c.requires.0.fits, c.requires.1)
+loop-i-init c = c.front-start.ensures
 
 pub returns-then-b-i-ne0 : goal.returns-then-b-i-ne0
 returns-then-b-i-ne0 c = λ z. c.if-b-i-ne0.true (z c.loop-i.i c.loop-i.invariant.low (omega arith))
-
-pub overflow_add-i : goal.overflow_add-i
-overflow_add-i c = omega (arith, c.requires.0.fits, c.requires.1)
-
-pub loop-i-smaller : goal.loop-i-smaller
-loop-i-smaller c = omega arith
 
 pub loop-i-preserved : goal.loop-i-preserved
 loop-i-preserved c = zero_more c.loop-i.invariant (omega arith) refl c.if-b-i-ne0.false

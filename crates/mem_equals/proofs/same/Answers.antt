@@ -1,10 +1,10 @@
 use mathlib.Core.Path.{◌≡◌, sym, ◌∙◌}
+use borrow.Author.Rules.{rules}
 use native.Mathlib.Omega.{arith}
 use Rattle.mem_words.specs.declared.Word.TheVariants.{Bad}
 use Rattle.mem_words.specs.Words.{words, length_words}
 use Rattle.mem_copies.specs.Runs.{run_more, run_differ}
 use Rattle.mem_copies.specs.Alike.{alike_words}
-use Rattle.mem_numbers.specs.Decides.{decided_yes, decided_no}
 use Rattle.mem_equals.proofs.same.Goals as goal
 
 pub overflow_mul-i : goal.overflow_mul-i
@@ -34,17 +34,13 @@ overflow_add-j c = omega (arith, c.requires.right, length_words c.args.b.now)
 pub get-y-requires : goal.get-y-requires
 get-y-requires c = omega (arith, c.requires.right)
 
-pub overflow_add-k : goal.overflow_add-k
-overflow_add-k c = omega (arith, c.requires.left, length_words c.args.a.now)
-
-pub returns-then-not-same_word : goal.returns-then-not-same_word
-returns-then-not-same_word c = run_differ c.args.i c.args.j c.loop-k.k c.args.n (words c.args.a.now) (words c.args.b.now) Bad (omega arith) (λ e. (decided_no c.same_word.result (c.if-not-same_word.true) c.same_word.ensures) (c.get-x.ensures.is ∙ e ∙ sym c.get-y.ensures.is))
-
-pub loop-k-smaller : goal.loop-k-smaller
-loop-k-smaller c = omega arith
+pub returns-then-ne : goal.returns-then-ne
+returns-then-ne c =
+    let d : c.get-x.result ≡ c.get-y.result → ⊥ = search rules in
+    run_differ c.args.i c.args.j c.loop-k.k c.args.n (words c.args.a.now) (words c.args.b.now) Bad (omega arith) (λ e. d (c.get-x.ensures.is ∙ e ∙ sym c.get-y.ensures.is))
 
 pub loop-k-preserved : goal.loop-k-preserved
-loop-k-preserved c = (omega arith, run_more c.args.i c.args.j c.loop-k.k (words c.args.a.now) (words c.args.b.now) Bad (omega (arith, c.requires.left)) (omega (arith, c.requires.right)) c.loop-k.invariant.1 (sym c.get-x.ensures.is ∙ decided_yes c.same_word.result (c.if-not-same_word.false) c.same_word.ensures ∙ c.get-y.ensures.is))
+loop-k-preserved c = (omega arith, run_more c.args.i c.args.j c.loop-k.k (words c.args.a.now) (words c.args.b.now) Bad (omega (arith, c.requires.left)) (omega (arith, c.requires.right)) c.loop-k.invariant.1 (sym c.get-x.ensures.is ∙ search rules ∙ c.get-y.ensures.is))
 
 pub returns : goal.returns
 returns c = let e : c.loop-k.k ≡ c.args.n = omega arith in rw e at c.loop-k.invariant.1

@@ -27,5 +27,5 @@ pub returns : goal.returns
 returns c =
     let l = c.args.b.now in
     let j : ℕ = 3 * c.args.i in
-    let v : c.wide-lo.result + c.wide-hi.result * 256 ≡ value_at 2 l (j + 1) = omega arith in
-    record { is = c.make.ensures ∙ ap₂ word c.wide-c.ensures.0 v ∙ sym (get_d_words l c.args.i c.requires); small = rw c.make.ensures (word_small c.wide-c.result (c.wide-lo.result + c.wide-hi.result * 256) (omega arith)) }
+    let v : c.from-lo.result + c.from-hi.result * 256 ≡ value_at 2 l (j + 1) = omega arith in
+    record { is = c.make.ensures ∙ ap₂ word c.from-c.ensures v ∙ sym (get_d_words l c.args.i c.requires); small = rw c.make.ensures (word_small c.from-c.result (c.from-lo.result + c.from-hi.result * 256) (omega arith)) }

@@ -22,12 +22,6 @@ overflow_add-at c = omega (arith, length_words c.args.dst.now, c.requires.room)
 pub put_opened-requires : goal.put_opened-requires
 put_opened-requires c = record { source = omega (arith, c.requires.source); room = omega (arith, c.requires.room); words = c.requires.words }
 
-pub overflow_add-i : goal.overflow_add-i
-overflow_add-i c = omega (arith, length_words c.args.src.now, c.requires.source)
-
-pub loop-i-smaller : goal.loop-i-smaller
-loop-i-smaller c = omega arith
-
 pub loop-i-preserved : goal.loop-i-preserved
 loop-i-preserved c =
     let a = c.args in

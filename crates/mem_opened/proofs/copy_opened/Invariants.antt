@@ -9,6 +9,3 @@ use Rattle.mem_opened.proofs.copy_opened.Given as goal
 
 abbrev pub invariant-loop-i : goal.invariant-loop-i
 invariant-loop-i l = (l.i ≤ l.n) × (length l.dst ≡ length l.initial.dst) × (length (words l.dst) ≡ length (words l.initial.dst)) × (words l.dst ≡ copied (words l.initial.dst) l.at (map (open_word (run l.v l.m (words l.vs))) (drop l.from (words l.src))) l.i)
-
-abbrev pub decreases-loop-i : goal.decreases-loop-i
-decreases-loop-i l = l.n - l.i

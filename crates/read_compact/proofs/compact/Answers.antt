@@ -10,20 +10,17 @@ loop-i-init c = (omega arith, refl, compacted_none (words c.args.out.now))
 pub get-w-requires : goal.get-w-requires
 get-w-requires c = omega (arith, c.loop-i.invariant.2.long)
 
-pub overflow_add-i : goal.overflow_add-i
-overflow_add-i c = omega (arith, length_words c.args.out.now)
-
 pub put-requires : goal.put-requires
 put-requires c = record { inside = omega (arith, c.loop-i.invariant.2.fewer, c.loop-i.invariant.2.long); small = c.get-w.ensures.small }
 
 pub overflow_add-r : goal.overflow_add-r
 overflow_add-r c = omega (arith, c.loop-i.invariant.2.fewer, length_words c.args.out.now)
 
-pub loop-i-preserved-then-not-empty : goal.loop-i-preserved-then-not-empty
-loop-i-preserved-then-not-empty c = (omega arith, c.put.auto.b ∙ c.loop-i.invariant.1, compacted_keep c.loop-i.invariant.2 c.get-w.result c.get-w.ensures.is (omega arith) (sym c.empty.ensures ∙ c.if-not-empty.true) c.put.ensures)
+pub loop-i-preserved-then-empty : goal.loop-i-preserved-then-empty
+loop-i-preserved-then-empty c = (omega arith, c.loop-i.invariant.1, compacted_drop c.loop-i.invariant.2 c.get-w.result c.get-w.ensures.is (omega arith) (sym c.empty.ensures ∙ c.if-empty.true))
 
 pub loop-i-preserved : goal.loop-i-preserved
-loop-i-preserved c = (omega arith, c.loop-i.invariant.1, compacted_drop c.loop-i.invariant.2 c.get-w.result c.get-w.ensures.is (omega arith) (sym c.empty.ensures ∙ c.if-not-empty.false))
+loop-i-preserved c = (omega arith, c.put.auto.b ∙ c.loop-i.invariant.1, compacted_keep c.loop-i.invariant.2 c.get-w.result c.get-w.ensures.is (omega arith) (sym c.empty.ensures ∙ c.if-empty.false) c.put.ensures)
 
 pub returns : goal.returns
 returns c = compacted_all c.loop-i.invariant.2 (omega arith)

@@ -17,12 +17,6 @@ emit-requires c = record { value = omega arith }
 pub returns-then-not-emit : goal.returns-then-not-emit
 returns-then-not-emit c = ended_short c.args.c c.loop-j.invariant.2 (emit_no End c.emit.result c.emit.ensures (c.if-not-emit.true)) (omega arith)
 
-pub overflow_add-j : goal.overflow_add-j
-overflow_add-j c = omega arith
-
-pub loop-j-smaller : goal.loop-j-smaller
-loop-j-smaller c = omega arith
-
 pub loop-j-preserved : goal.loop-j-preserved
 loop-j-preserved c = (omega arith, c.emit.auto.out ∙ c.loop-j.invariant.1, ended_more c.loop-j.invariant.2 (emit_yes c.emit.result c.emit.ensures (c.if-not-emit.false)))
 

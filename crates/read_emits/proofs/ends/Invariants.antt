@@ -7,6 +7,3 @@ use Rattle.read_emits.proofs.ends.Given as goal
 
 abbrev pub invariant-loop-j : goal.invariant-loop-j
 invariant-loop-j l = (l.j ≤ l.c) × (length l.out ≡ length l.initial.out) × Ended (words l.initial.out) l.k l.j (words l.out) (l.k + l.j)
-
-abbrev pub decreases-loop-j : goal.decreases-loop-j
-decreases-loop-j l = l.c - l.j

@@ -13,10 +13,10 @@ pub returns-in_default : goal.returns-in_default
 returns-in_default c = no_true c.start.ensures.0 (interned_full c.in_default.is c.intern.ensures)
 
 pub intern-requires-2 : goal.intern-requires-2
-intern-requires-2 c = record { trie = (interned_at c.in-At.is c.intern.ensures).number.trie; inside = omega arith }
+intern-requires-2 c = record { trie = (interned_at c.in-Some.is c.intern.ensures).number.trie; inside = omega arith }
 
 pub returns-in_default-intern : goal.returns-in_default-intern
-returns-in_default-intern c = no_fail c.start.ensures.0 (interned_at c.in-At.is c.intern.ensures) (interned_full c.in_default-intern.is c.intern-2.ensures)
+returns-in_default-intern c = no_fail c.start.ensures.0 (interned_at c.in-Some.is c.intern.ensures) (interned_full c.in_default-intern.is c.intern-2.ensures)
 
 pub returns : goal.returns
-returns c = both c.start.ensures.0 true_bytes fail_bytes (interned_at c.in-At.is c.intern.ensures) (interned_at c.in-At-intern.is c.intern-2.ensures)
+returns c = both c.start.ensures.0 true_bytes fail_bytes (interned_at c.in-Some.is c.intern.ensures) (interned_at c.in-Some-intern.is c.intern-2.ensures)

@@ -6,4 +6,4 @@ use Rattle.mem_numbers.specs.Numbers.{shorts}
 use Rattle.read_lookups.proofs.level_of.Goals as goal
 
 pub returns : goal.returns
-returns c = sym (get_or-eq_default (shorts c.args.binds.now) 0 (omega (arith, c.short_count.ensures.is)))
+returns c = sym (get_or-eq_default (shorts c.args.binds.now) 0 (omega (arith, c.count.ensures.is)))

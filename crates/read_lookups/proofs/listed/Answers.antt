@@ -10,11 +10,11 @@ use Rattle.read_lookups.proofs.listed.Goals as goal
 pub loop-m-init : goal.loop-m-init
 loop-m-init c = (omega arith, among_none c.args.head (triples c.args.heads.now))
 
-pub returns-then-triple_get-head : goal.returns-then-triple_get-head
-returns-then-triple_get-head c = sym (among_at c.args.head (triples c.args.heads.now) c.args.k c.loop-m.m (omega arith) (omega arith) (omega (arith, c.triple_get.ensures.is)))
+pub returns-then-get-head : goal.returns-then-get-head
+returns-then-get-head c = sym (among_at c.args.head (triples c.args.heads.now) c.args.k c.loop-m.m (omega arith) (omega arith) (omega (arith, c.get.ensures.is)))
 
 pub loop-m-preserved : goal.loop-m-preserved
-loop-m-preserved c = (omega arith, among_past c.args.head (triples c.args.heads.now) c.loop-m.m (omega arith) c.loop-m.invariant.1 (λ e. omega (arith, c.triple_get.ensures.is)))
+loop-m-preserved c = (omega arith, among_past c.args.head (triples c.args.heads.now) c.loop-m.m (omega arith) c.loop-m.invariant.1 (λ e. omega (arith, c.get.ensures.is)))
 
 pub returns : goal.returns
 returns c =

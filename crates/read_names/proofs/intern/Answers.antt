@@ -18,18 +18,12 @@ bounds-text-at c = omega (arith, c.requires.inside)
 pub child_of-requires : goal.child_of-requires
 child_of-requires c = record { trie = c.loop-i.invariant.1.trie; inside = c.loop-i.invariant.1.inside }
 
-pub returns-in_default : goal.returns-in_default
-returns-in_default c = intern_full c.loop-i.invariant.1 c.loop-i.invariant.2 (omega arith) (rw c.in_default.is at c.child_of.ensures)
-
-pub overflow_add-i : goal.overflow_add-i
-overflow_add-i c = omega arith
-
-pub loop-i-smaller : goal.loop-i-smaller
-loop-i-smaller c = omega arith
+pub returns-in_err-q : goal.returns-in_err-q
+returns-in_err-q c = rw c.from_residual.ensures (intern_full c.loop-i.invariant.1 c.loop-i.invariant.2 (omega arith) c.in_err-q.ensures)
 
 pub loop-i-preserved : goal.loop-i-preserved
 loop-i-preserved c =
-    let C = (rw c.in-At.is at c.child_of.ensures) in
+    let C = c.in_ok-q.ensures in
     let A = c.loop-i.invariant in (
       omega arith,
       named_more A.1 C.put (omega (arith, c.shared_slice_known-1.given (c.args.at + c.loop-i.i))) (omega (arith, c.requires.inside)),

@@ -5,4 +5,4 @@ use Rattle.read_nodes.specs.Starting.{trie_start}
 use Rattle.read_nodes.proofs.start.Goals as goal
 
 pub returns : goal.returns
-returns c = (record { cells = refl; heads = c.short_put.ensures.long; nexts = refl }, trie_start (record { cells = omega arith; heads = omega arith; nexts = omega arith; count = omega arith }) c.short_put.ensures)
+returns c = (record { cells = refl; heads = c.put.ensures.long; nexts = refl }, trie_start (record { cells = omega arith; heads = omega arith; nexts = omega arith; count = omega arith }) c.put.ensures)

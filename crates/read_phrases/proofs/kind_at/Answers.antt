@@ -3,8 +3,8 @@ use native.Mathlib.Omega.{arith}
 use Rattle.read_phrases.proofs.Reading.{kind_got, kind_past}
 use Rattle.read_phrases.proofs.kind_at.Goals as goal
 
-pub returns-then-i-triple_count : goal.returns-then-i-triple_count
-returns-then-i-triple_count c = kind_got _ _ _ _ (omega arith) c.triple_get.ensures.is refl
+pub returns-then-i-count : goal.returns-then-i-count
+returns-then-i-count c = kind_got _ _ _ _ (omega arith) c.get.ensures.is refl
 
 pub returns : goal.returns
 returns c = kind_past _ _ (omega arith)

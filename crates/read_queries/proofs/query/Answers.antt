@@ -3,11 +3,11 @@ use Rattle.read_wholes.proofs.Tables.{answered, codes_there, codes_length, binds
 use Rattle.read_queries.proofs.Answering.{query_too_long, query_not, query_cramped, query_few_binds, query_few_order, query_can, query_through}
 use Rattle.read_queries.proofs.query.Goals as goal
 
-pub returns-then-short_count-names : goal.returns-then-short_count-names
-returns-then-short_count-names c = query_few_binds (answered c.in-Yes.is c.query_text-r.ensures) (omega (arith, c.short_count.ensures.is))
+pub returns-then-count-names : goal.returns-then-count-names
+returns-then-count-names c = query_few_binds (answered c.in-Yes.is c.query_text-r.ensures) (omega (arith, c.count.ensures.is))
 
-pub returns-then-short_count-lt16 : goal.returns-then-short_count-lt16
-returns-then-short_count-lt16 c = query_few_order (answered c.in-Yes.is c.query_text-r.ensures) (omega (arith, c.short_count-in-Yes.ensures.is))
+pub returns-then-count-lt16 : goal.returns-then-count-lt16
+returns-then-count-lt16 c = query_few_order (answered c.in-Yes.is c.query_text-r.ensures) (omega (arith, c.count-in-Yes.ensures.is))
 
 pub overflow_mul-e : goal.overflow_mul-e
 overflow_mul-e c = omega (arith, (answered c.in-Yes.is c.query_text-r.ensures).answer.entries.table.short, (answered c.in-Yes.is c.query_text-r.ensures).answer.fits)
@@ -19,16 +19,16 @@ pub slice_bounds-checked-end-in-Yes : goal.slice_bounds-checked-end-in-Yes
 slice_bounds-checked-end-in-Yes c = codes_length c.query_text-r.new.codes (answered c.in-Yes.is c.query_text-r.ensures)
 
 pub slice_bounds-checked-end-in-Yes-2 : goal.slice_bounds-checked-end-in-Yes-2
-slice_bounds-checked-end-in-Yes-2 c = binds_there c.query_text-r.new.codes (answered c.in-Yes.is c.query_text-r.ensures) c.args.binds.now (omega (arith, c.short_count.ensures.is))
+slice_bounds-checked-end-in-Yes-2 c = binds_there c.query_text-r.new.codes (answered c.in-Yes.is c.query_text-r.ensures) c.args.binds.now (omega (arith, c.count.ensures.is))
 
 pub slice_bounds-checked-end-in-Yes-3 : goal.slice_bounds-checked-end-in-Yes-3
-slice_bounds-checked-end-in-Yes-3 c = binds_length c.query_text-r.new.codes (answered c.in-Yes.is c.query_text-r.ensures) c.args.binds.now (omega (arith, c.short_count.ensures.is))
+slice_bounds-checked-end-in-Yes-3 c = binds_length c.query_text-r.new.codes (answered c.in-Yes.is c.query_text-r.ensures) c.args.binds.now (omega (arith, c.count.ensures.is))
 
 pub checked-requires : goal.checked-requires
-checked-requires c = query_can c.requires (answered c.in-Yes.is c.query_text-r.ensures) (lent c.query_text-r.new.codes (answered c.in-Yes.is c.query_text-r.ensures) c.args.binds.now (omega (arith, c.short_count.ensures.is))) (omega (arith, c.short_count-in-Yes.ensures.is))
+checked-requires c = query_can c.requires (answered c.in-Yes.is c.query_text-r.ensures) (lent c.query_text-r.new.codes (answered c.in-Yes.is c.query_text-r.ensures) c.args.binds.now (omega (arith, c.count.ensures.is))) (omega (arith, c.count-in-Yes.ensures.is))
 
-pub returns-else-short_count-lt16 : goal.returns-else-short_count-lt16
-returns-else-short_count-lt16 c = query_through c.requires (answered c.in-Yes.is c.query_text-r.ensures) (lent c.query_text-r.new.codes (answered c.in-Yes.is c.query_text-r.ensures) c.args.binds.now (omega (arith, c.short_count.ensures.is))) _ c.checked.ensures
+pub returns-else-count-lt16 : goal.returns-else-count-lt16
+returns-else-count-lt16 c = query_through c.requires (answered c.in-Yes.is c.query_text-r.ensures) (lent c.query_text-r.new.codes (answered c.in-Yes.is c.query_text-r.ensures) c.args.binds.now (omega (arith, c.count.ensures.is))) _ c.checked.ensures
 
 pub returns-in-Long : goal.returns-in-Long
 returns-in-Long c = query_too_long (answered c.in-Long.is c.query_text-r.ensures)

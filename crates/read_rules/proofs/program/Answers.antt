@@ -3,11 +3,11 @@ use Rattle.read_wholes.proofs.Tables.{answered, codes_there, codes_length, binds
 use Rattle.read_programs.proofs.Answering.{program_too_long, program_not, program_cramped, program_few_binds, program_few_order, program_can, program_through}
 use Rattle.read_rules.proofs.program.Goals as goal
 
-pub returns-then-short_count-names : goal.returns-then-short_count-names
-returns-then-short_count-names c = program_few_binds (answered c.in-Yes.is c.program_text-r.ensures) (omega (arith, c.short_count.ensures.is))
+pub returns-then-count-names : goal.returns-then-count-names
+returns-then-count-names c = program_few_binds (answered c.in-Yes.is c.program_text-r.ensures) (omega (arith, c.count.ensures.is))
 
-pub returns-then-short_count-lt16 : goal.returns-then-short_count-lt16
-returns-then-short_count-lt16 c = program_few_order (answered c.in-Yes.is c.program_text-r.ensures) (omega (arith, c.short_count-in-Yes.ensures.is))
+pub returns-then-count-lt16 : goal.returns-then-count-lt16
+returns-then-count-lt16 c = program_few_order (answered c.in-Yes.is c.program_text-r.ensures) (omega (arith, c.count-in-Yes.ensures.is))
 
 pub overflow_mul-e : goal.overflow_mul-e
 overflow_mul-e c = omega (arith, (answered c.in-Yes.is c.program_text-r.ensures).answer.entries.table.short, (answered c.in-Yes.is c.program_text-r.ensures).answer.fits)
@@ -19,16 +19,16 @@ pub slice_bounds-checked-end-in-Yes : goal.slice_bounds-checked-end-in-Yes
 slice_bounds-checked-end-in-Yes c = codes_length c.program_text-r.new.codes (answered c.in-Yes.is c.program_text-r.ensures)
 
 pub slice_bounds-checked-end-in-Yes-2 : goal.slice_bounds-checked-end-in-Yes-2
-slice_bounds-checked-end-in-Yes-2 c = binds_there c.program_text-r.new.codes (answered c.in-Yes.is c.program_text-r.ensures) c.args.binds.now (omega (arith, c.short_count.ensures.is))
+slice_bounds-checked-end-in-Yes-2 c = binds_there c.program_text-r.new.codes (answered c.in-Yes.is c.program_text-r.ensures) c.args.binds.now (omega (arith, c.count.ensures.is))
 
 pub slice_bounds-checked-end-in-Yes-3 : goal.slice_bounds-checked-end-in-Yes-3
-slice_bounds-checked-end-in-Yes-3 c = binds_length c.program_text-r.new.codes (answered c.in-Yes.is c.program_text-r.ensures) c.args.binds.now (omega (arith, c.short_count.ensures.is))
+slice_bounds-checked-end-in-Yes-3 c = binds_length c.program_text-r.new.codes (answered c.in-Yes.is c.program_text-r.ensures) c.args.binds.now (omega (arith, c.count.ensures.is))
 
 pub checked-requires : goal.checked-requires
-checked-requires c = program_can (answered c.in-Yes.is c.program_text-r.ensures) (lent c.program_text-r.new.codes (answered c.in-Yes.is c.program_text-r.ensures) c.args.binds.now (omega (arith, c.short_count.ensures.is))) (omega (arith, c.short_count-in-Yes.ensures.is))
+checked-requires c = program_can (answered c.in-Yes.is c.program_text-r.ensures) (lent c.program_text-r.new.codes (answered c.in-Yes.is c.program_text-r.ensures) c.args.binds.now (omega (arith, c.count.ensures.is))) (omega (arith, c.count-in-Yes.ensures.is))
 
-pub returns-else-short_count-lt16 : goal.returns-else-short_count-lt16
-returns-else-short_count-lt16 c = program_through (answered c.in-Yes.is c.program_text-r.ensures) (lent c.program_text-r.new.codes (answered c.in-Yes.is c.program_text-r.ensures) c.args.binds.now (omega (arith, c.short_count.ensures.is))) c.program_text-r.new.stack _ c.program_text-r.auto.stack c.checked.ensures
+pub returns-else-count-lt16 : goal.returns-else-count-lt16
+returns-else-count-lt16 c = program_through (answered c.in-Yes.is c.program_text-r.ensures) (lent c.program_text-r.new.codes (answered c.in-Yes.is c.program_text-r.ensures) c.args.binds.now (omega (arith, c.count.ensures.is))) c.program_text-r.new.stack _ c.program_text-r.auto.stack c.checked.ensures
 
 pub returns-in-Long : goal.returns-in-Long
 returns-in-Long c = program_too_long (answered c.in-Long.is c.program_text-r.ensures)

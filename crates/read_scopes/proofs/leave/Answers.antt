@@ -5,11 +5,11 @@ use Rattle.read_scopes.proofs.leave.Goals as goal
 pub name_at-id-requires : goal.name_at-id-requires
 name_at-id-requires c = c.requires.inside
 
-pub short_get-old-requires : goal.short_get-old-requires
-short_get-old-requires c = c.requires.room
+pub get-old-requires-clause-inside : goal.get-old-requires-clause-inside
+get-old-requires-clause-inside c = c.requires.room
 
-pub short_put-requires : goal.short_put-requires
-short_put-requires c = record { inside = omega (arith, c.requires.name, c.name_at-id.ensures); small = omega (arith, c.short_get-old.ensures.small) }
+pub put-requires-clause-can : goal.put-requires-clause-can
+put-requires-clause-can c = record { inside = omega (arith, c.requires.name, c.name_at-id.ensures); small = omega (arith, c.get-old.ensures.small) }
 
 pub returns : goal.returns
-returns c = left c.name_at-id.ensures c.short_get-old.ensures.is c.short_put.ensures
+returns c = left c.name_at-id.ensures c.get-old.ensures.is c.put.ensures

@@ -8,8 +8,8 @@ use Rattle.read_steps.proofs.read_number.Goals as goal
 pub loop-i-init : goal.loop-i-init
 loop-i-init c = digits_start _ _
 
-pub returns-then-s-i : goal.returns-then-s-i
-returns-then-s-i c = number_end _ _ _ _ _ c.loop-i.invariant (omega arith)
+pub returns : goal.returns
+returns c = number_end _ _ _ _ _ c.loop-i.invariant (omega arith)
 
 pub with_digit-n-requires : goal.with_digit-n-requires
 with_digit-n-requires c = let d = digit_byte _ (sym (sym c.if-more.true ∙ c.is_digit-more.ensures)) in record { small = c.loop-i.invariant.bound; low = d.0; high = d.1 }

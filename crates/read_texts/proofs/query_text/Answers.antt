@@ -1,5 +1,5 @@
 -- `read_texts::query_text` meets its contract: the tokens, and then the grammar on the codes of the tokens. Assumes nothing.
-use mathlib.Core.Path.{sym, subst}
+use mathlib.Core.Path.{ap, sym, ◌∙◌, subst}
 use Prim.Native.Nat.{◌*◌}
 use native.Mathlib.Omega.{arith}
 use lib.ListN.{take}
@@ -7,7 +7,10 @@ use lib.Seq.{length-take-le}
 use Rattle.akl.specs.Limits.{query_bytes}
 use Rattle.akl.specs.Parse.{parse_query}
 use Rattle.mem_numbers.specs.Numbers.{triples, length_triples}
-use Rattle.read_grammar.specs.declared.Verdict.TheVariants.{Of, NotOf, NoRoom}
+use Rattle.std.specs.Prelude as std
+use Rattle.read_lexed.specs.declared.NotLexed.{NotLexed}
+use Rattle.read_statements.specs.declared.Unparsed.{Unparsed}
+use Rattle.read_statements.specs.declared.Unparsed.TheVariants.{Odd, Short}
 use Rattle.read_grammar.specs.Grammar.{QueryIs}
 use Rattle.read_texts.specs.Entries.{entries}
 use Rattle.read_texts.specs.Texts.{text_long, text_bad, text_full, text_of, text_not, text_narrow, lent_known, lent, told_all, told_bad, told_full}
@@ -20,28 +23,28 @@ pub tokenise-l-requires : goal.tokenise-l-requires
 tokenise-l-requires c = c.requires.trie
 
 pub overflow_mul-e : goal.overflow_mul-e
-overflow_mul-e c = omega (arith, (told_all c.tokenise-l.ensures c.in-All.is).answer.short)
+overflow_mul-e c = omega (arith, (told_all c.tokenise-l.ensures c.in-Ok.is).answer.short)
 
 pub slice_bounds-query_is-end : goal.slice_bounds-query_is-end
-slice_bounds-query_is-end c = omega (arith, (told_all c.tokenise-l.ensures c.in-All.is).answer.inside, length_triples c.tokenise-l.new.codes)
+slice_bounds-query_is-end c = omega (arith, (told_all c.tokenise-l.ensures c.in-Ok.is).answer.inside, length_triples c.tokenise-l.new.codes)
 
-pub slice_bounds-query_is-end-in-All : goal.slice_bounds-query_is-end-in-All
-slice_bounds-query_is-end-in-All c = sym (length-take-le (3 * c.in-All.k) c.tokenise-l.new.codes (omega (arith, (told_all c.tokenise-l.ensures c.in-All.is).answer.inside, length_triples c.tokenise-l.new.codes)))
+pub slice_bounds-query_is-end-in-Ok : goal.slice_bounds-query_is-end-in-Ok
+slice_bounds-query_is-end-in-Ok c = sym (length-take-le (3 * c.in-Ok.k) c.tokenise-l.new.codes (omega (arith, (told_all c.tokenise-l.ensures c.in-Ok.is).answer.inside, length_triples c.tokenise-l.new.codes)))
 
 pub query_is-v-requires : goal.query_is-v-requires
-query_is-v-requires c = lent_known c.tokenise-l.new.codes (entries c.requires (told_all c.tokenise-l.ensures c.in-All.is).answer)
+query_is-v-requires c = lent_known c.tokenise-l.new.codes (entries c.requires (told_all c.tokenise-l.ensures c.in-Ok.is).answer)
 
-pub returns-in-Of : goal.returns-in-Of
-returns-in-Of c = text_of query_bytes parse_query (omega arith) c.requires (told_all c.tokenise-l.ensures c.in-All.is) (lent parse_query c.tokenise-l.new.codes c.args.stack.now c.in-All.k Of (omega (arith, (told_all c.tokenise-l.ensures c.in-All.is).answer.inside, length_triples c.tokenise-l.new.codes)) (subst (QueryIs (triples (take (3 * c.in-All.k) c.tokenise-l.new.codes)) c.args.stack.now) c.in-Of.is c.query_is-v.ensures))
+pub returns-in-Ok-v : goal.returns-in-Ok-v
+returns-in-Ok-v c = text_of query_bytes parse_query (omega arith) c.requires (told_all c.tokenise-l.ensures c.in-Ok.is) (lent parse_query c.tokenise-l.new.codes c.args.stack.now c.in-Ok.k (std.Ok tt) (omega (arith, (told_all c.tokenise-l.ensures c.in-Ok.is).answer.inside, length_triples c.tokenise-l.new.codes)) (subst (QueryIs (triples (take (3 * c.in-Ok.k) c.tokenise-l.new.codes)) c.args.stack.now) c.in-Ok-v.is c.query_is-v.ensures))
 
-pub returns-in-NotOf : goal.returns-in-NotOf
-returns-in-NotOf c = text_not query_bytes parse_query (omega arith) c.requires (told_all c.tokenise-l.ensures c.in-All.is) (lent parse_query c.tokenise-l.new.codes c.args.stack.now c.in-All.k NotOf (omega (arith, (told_all c.tokenise-l.ensures c.in-All.is).answer.inside, length_triples c.tokenise-l.new.codes)) (subst (QueryIs (triples (take (3 * c.in-All.k) c.tokenise-l.new.codes)) c.args.stack.now) c.in-NotOf.is c.query_is-v.ensures))
+pub returns-in-Err-Odd : goal.returns-in-Err-Odd
+returns-in-Err-Odd c = text_not query_bytes parse_query (omega arith) c.requires (told_all c.tokenise-l.ensures c.in-Ok.is) (lent parse_query c.tokenise-l.new.codes c.args.stack.now c.in-Ok.k (std.Err Odd) (omega (arith, (told_all c.tokenise-l.ensures c.in-Ok.is).answer.inside, length_triples c.tokenise-l.new.codes)) (subst (QueryIs (triples (take (3 * c.in-Ok.k) c.tokenise-l.new.codes)) c.args.stack.now) (c.in-Err-Odd.is ∙ ap (λ (e : Unparsed). std.Err e) (rw c.in-Err-Odd.is at c.in-Err-Odd.field-0-is)) c.query_is-v.ensures))
 
-pub returns-in-NoRoom : goal.returns-in-NoRoom
-returns-in-NoRoom c = text_narrow query_bytes parse_query (omega arith) c.requires (told_all c.tokenise-l.ensures c.in-All.is) (lent parse_query c.tokenise-l.new.codes c.args.stack.now c.in-All.k NoRoom (omega (arith, (told_all c.tokenise-l.ensures c.in-All.is).answer.inside, length_triples c.tokenise-l.new.codes)) (subst (QueryIs (triples (take (3 * c.in-All.k) c.tokenise-l.new.codes)) c.args.stack.now) c.in-NoRoom.is c.query_is-v.ensures))
+pub returns-in-Err-Short : goal.returns-in-Err-Short
+returns-in-Err-Short c = text_narrow query_bytes parse_query (omega arith) c.requires (told_all c.tokenise-l.ensures c.in-Ok.is) (lent parse_query c.tokenise-l.new.codes c.args.stack.now c.in-Ok.k (std.Err Short) (omega (arith, (told_all c.tokenise-l.ensures c.in-Ok.is).answer.inside, length_triples c.tokenise-l.new.codes)) (subst (QueryIs (triples (take (3 * c.in-Ok.k) c.tokenise-l.new.codes)) c.args.stack.now) (c.in-Err-Short.is ∙ ap (λ (e : Unparsed). std.Err e) (rw c.in-Err-Short.is at c.in-Err-Short.field-0-is)) c.query_is-v.ensures))
 
-pub returns-in-Bad : goal.returns-in-Bad
-returns-in-Bad c = text_bad query_bytes parse_query (omega arith) (told_bad c.tokenise-l.ensures c.in-Bad.is)
+pub returns-in-Err-Bad : goal.returns-in-Err-Bad
+returns-in-Err-Bad c = text_bad query_bytes parse_query (omega arith) (told_bad c.tokenise-l.ensures (c.in-Err-Bad.is ∙ ap (λ (e : NotLexed). std.Err e) (rw c.in-Err-Bad.is at c.in-Err-Bad.field-0-is)))
 
-pub returns-in-Full : goal.returns-in-Full
-returns-in-Full c = text_full query_bytes parse_query (omega arith) (told_full c.tokenise-l.ensures c.in-Full.is)
+pub returns-in-Err-Full : goal.returns-in-Err-Full
+returns-in-Err-Full c = text_full query_bytes parse_query (omega arith) (told_full c.tokenise-l.ensures (c.in-Err-Full.is ∙ ap (λ (e : NotLexed). std.Err e) (rw c.in-Err-Full.is at c.in-Err-Full.field-0-is)))

@@ -13,8 +13,8 @@ returns-in-End c = sofar_end c.loop-kind.invariant.0 (rw c.in-End.is at c.next-n
 pub returns-in-Bad : goal.returns-in-Bad
 returns-in-Bad c = sofar_bad c.loop-kind.invariant.0 (rw c.in-Bad.is at c.next-next.ensures)
 
-pub returns-then-triple_count-k : goal.returns-then-triple_count-k
-returns-then-triple_count-k c = sofar_codes c.loop-kind.invariant.0 _ _ _ _ (rw c.in-Token.is at c.next-next.ensures) (omega arith)
+pub returns-then-count-k : goal.returns-then-count-k
+returns-then-count-k c = sofar_codes c.loop-kind.invariant.0 _ _ _ _ (rw c.in-Token.is at c.next-next.ensures) (omega arith)
 
 pub code-requires : goal.code-requires
 code-requires c =
@@ -24,9 +24,9 @@ code-requires c =
 pub returns-in_default : goal.returns-in_default
 returns-in_default c = sofar_names c.loop-kind.invariant.0 _ _ _ _ (rw c.in-Token.is at c.next-next.ensures) (rw c.in_default.is at c.code.ensures)
 
-pub triple_put-requires : goal.triple_put-requires
-triple_put-requires c =
-    let E = (rw c.in-At.is at c.code.ensures) in
+pub put-requires-clause-can : goal.put-requires-clause-can
+put-requires-clause-can c =
+    let E = (rw c.in-Some.is at c.code.ensures) in
     record { inside = omega arith; small = omega (arith, E.code.fit.number, E.code.trie.room.count) }
 
 pub overflow_add-k : goal.overflow_add-k
@@ -40,10 +40,10 @@ loop-kind-smaller c =
 pub loop-kind-preserved : goal.loop-kind-preserved
 loop-kind-preserved c =
     let R = (rw c.in-Token.is at c.next-next.ensures) in
-    let E = (rw c.in-At.is at c.code.ensures) in
+    let E = (rw c.in-Some.is at c.code.ensures) in
     let A = c.loop-kind.invariant in (
-      sofar_more A.0 _ _ _ _ R E (omega arith) c.triple_put.ensures,
-      c.triple_put.auto.b ∙ A.1,
+      sofar_more A.0 _ _ _ _ R E (omega arith) c.put.ensures,
+      c.put.auto.b ∙ A.1,
       c.code.auto.cells ∙ A.2,
       c.code.auto.heads ∙ A.3,
       c.code.auto.nexts ∙ A.4,

@@ -12,29 +12,29 @@ overflow_mul-c c = omega (arith, c.requires.inside, c.requires.trie.room.count)
 pub overflow_add-c : goal.overflow_add-c
 overflow_add-c c = omega (arith, c.requires.inside, c.requires.trie.room.count)
 
-pub short_get-q-requires : goal.short_get-q-requires
-short_get-q-requires c = omega (arith, c.requires.inside, c.requires.trie.room.heads)
+pub get-q-requires-clause-inside : goal.get-q-requires-clause-inside
+get-q-requires-clause-inside c = omega (arith, c.requires.inside, c.requires.trie.room.heads)
 
 pub loop-q-init : goal.loop-q-init
-loop-q-init c = (ahead_start c.requires.trie c.args.p _ _ (omega arith) c.short_get-q.ensures.is, omega (arith, c.short_get-q.ensures.is, c.requires.trie.inside c.args.p c.requires.inside))
+loop-q-init c = (ahead_start c.requires.trie c.args.p _ _ (omega arith) c.get-q.ensures.is, omega (arith, c.get-q.ensures.is, c.requires.trie.inside c.args.p c.requires.inside))
 
-pub triple_get-requires : goal.triple_get-requires
-triple_get-requires c = omega (arith, c.requires.trie.room.cells)
+pub get-requires-clause-inside : goal.get-requires-clause-inside
+get-requires-clause-inside c = omega (arith, c.requires.trie.room.cells)
 
-pub returns-then-triple_get-c : goal.returns-then-triple_get-c
-returns-then-triple_get-c c = found c.requires (omega arith) (omega arith) (omega (arith, c.triple_get.ensures.is))
+pub returns-then-get-c : goal.returns-then-get-c
+returns-then-get-c c = found c.requires (omega arith) (omega arith) (omega (arith, c.get.ensures.is))
 
-pub short_get-q-requires-in-loop-q : goal.short_get-q-requires-in-loop-q
-short_get-q-requires-in-loop-q c = omega (arith, c.requires.trie.room.nexts)
+pub get-q-requires-in-loop-q-clause-inside : goal.get-q-requires-in-loop-q-clause-inside
+get-q-requires-in-loop-q-clause-inside c = omega (arith, c.requires.trie.room.nexts)
 
 pub loop-q-smaller : goal.loop-q-smaller
-loop-q-smaller c = omega (arith, c.short_get-q-in-loop-q.ensures.is, c.requires.trie.lower c.loop-q.q (omega arith) (omega arith))
+loop-q-smaller c = omega (arith, c.get-q-in-loop-q.ensures.is, c.requires.trie.lower c.loop-q.q (omega arith) (omega arith))
 
 pub loop-q-preserved : goal.loop-q-preserved
-loop-q-preserved c = (ahead_next (triples c.args.cells.now) (shorts c.args.nexts.now) c.args.n (c.args.p * 256 + c.wide.result) c.loop-q.q c.loop-q.invariant.0 (λ e. omega (arith, c.triple_get.ensures.is)) _ c.short_get-q-in-loop-q.ensures.is, omega (arith, c.short_get-q-in-loop-q.ensures.is, c.requires.trie.lower c.loop-q.q (omega arith) (omega arith)))
+loop-q-preserved c = (ahead_next (triples c.args.cells.now) (shorts c.args.nexts.now) c.args.n (c.args.p * 256 + c.from.result) c.loop-q.q c.loop-q.invariant.0 (λ e. omega (arith, c.get.ensures.is)) _ c.get-q-in-loop-q.ensures.is, omega (arith, c.get-q-in-loop-q.ensures.is, c.requires.trie.lower c.loop-q.q (omega arith) (omega arith)))
 
 pub make-requires : goal.make-requires
 make-requires c = can_make c.requires c.loop-q.invariant.0 (omega arith) (omega arith) (omega (arith, c.requires.inside, c.requires.trie.room.count))
 
 pub returns : goal.returns
-returns c = rw c.wide.ensures.0 at c.make.ensures
+returns c = rw c.from.ensures at c.make.ensures

@@ -9,6 +9,3 @@ use Rattle.read_varlists.proofs.variables.Given as goal
 
 abbrev pub invariant-loop-j : goal.invariant-loop-j
 invariant-loop-j l = (l.j ≤ l.count) × (length l.out ≡ length l.initial.out) × (length l.order ≡ length l.initial.order) × VarsDone (ids (triples l.codes) l.j l.first) (words l.initial.out) l.k (shorts l.binds) (shorts l.initial.order) l.q l.query (words l.out) (shorts l.order) l.at l.m l.any
-
-abbrev pub decreases-loop-j : goal.decreases-loop-j
-decreases-loop-j l = l.count - l.j

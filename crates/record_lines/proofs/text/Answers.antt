@@ -7,12 +7,6 @@ use Rattle.record_lines.proofs.text.Goals as goal
 pub loop-i-init : goal.loop-i-init
 loop-i-init c = (omega arith, refl, text_none c.args.piece.now _ _ c.requires)
 
-pub overflow_add-i : goal.overflow_add-i
-overflow_add-i c = omega arith
-
-pub loop-i-smaller : goal.loop-i-smaller
-loop-i-smaller c = omega arith
-
 pub loop-i-preserved : goal.loop-i-preserved
 loop-i-preserved c = (omega arith, c.byte-end.auto.out ∙ c.loop-i.invariant.1, text_more c.args.piece.now c.loop-i.i (omega arith) c.loop-i.invariant.2 c.byte-end.ensures)
 

@@ -6,6 +6,3 @@ use Rattle.rule_around.proofs.opening_of.Given as goal
 
 abbrev pub invariant-loop-j : goal.invariant-loop-j
 invariant-loop-j l = (l.j ≤ l.i) × (l.d + l.j ≤ l.i) × (up l.j (words l.ws) l.d ≡ up l.i (words l.ws) 0)
-
-abbrev pub decreases-loop-j : goal.decreases-loop-j
-decreases-loop-j l = l.j

@@ -7,6 +7,3 @@ use Rattle.rule_close.proofs.end_of.Given as goal
 
 abbrev pub invariant-loop-j : goal.invariant-loop-j
 invariant-loop-j l = (l.i < l.j) × (l.j ≤ l.n) × (l.d ≤ l.j) × (l.j + upto (drop l.j (words l.ws)) l.d ≡ l.i + 1 + upto (drop (l.i + 1) (words l.ws)) 0)
-
-abbrev pub decreases-loop-j : goal.decreases-loop-j
-decreases-loop-j l = l.n - l.j

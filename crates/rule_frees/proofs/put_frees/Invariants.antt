@@ -8,6 +8,3 @@ use Rattle.rule_frees.proofs.put_frees.Given as goal
 
 abbrev pub invariant-loop-j : goal.invariant-loop-j
 invariant-loop-j l = (l.j ≤ l.n) × (length l.out ≡ length l.initial.out) × (length (words l.out) ≡ length (words l.initial.out)) × (words l.out ≡ copied (words l.initial.out) l.at (frees l.next.0 l.n) l.j)
-
-abbrev pub decreases-loop-j : goal.decreases-loop-j
-decreases-loop-j l = l.n - l.j

@@ -30,9 +30,6 @@ overflow_add-at c = omega (arith, length_words c.args.out.now, c.requires.room)
 pub put-requires : goal.put-requires
 put-requires c = record { inside = omega (arith, c.requires.room, c.loop-j.invariant.2); small = c.fresh_word-o.ensures.small }
 
-pub overflow_add-j : goal.overflow_add-j
-overflow_add-j c = omega (arith, length_words c.args.ws.now, c.requires.source)
-
 pub loop-j-preserved : goal.loop-j-preserved
 loop-j-preserved c =
     let lp = c.loop-j in

@@ -10,6 +10,3 @@ use Rattle.rule_fresh.proofs.copy_fresh.Given as goal
 
 abbrev pub invariant-loop-j : goal.invariant-loop-j
 invariant-loop-j l = (l.j ≤ l.m) × (length l.out ≡ length l.initial.out) × (length (words l.out) ≡ length (words l.initial.out)) × (words l.out ≡ copied (words l.initial.out) l.at (map (open_word (frees l.next.0 l.n)) (drop l.s (words l.ws))) l.j)
-
-abbrev pub decreases-loop-j : goal.decreases-loop-j
-decreases-loop-j l = l.m - l.j

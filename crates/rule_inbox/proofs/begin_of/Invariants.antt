@@ -4,6 +4,3 @@ use Rattle.rule_inbox.proofs.begin_of.Given as goal
 
 abbrev pub invariant-loop-j : goal.invariant-loop-j
 invariant-loop-j l = Back (words l.ws) l.c l.j l.d
-
-abbrev pub decreases-loop-j : goal.decreases-loop-j
-decreases-loop-j l = l.j

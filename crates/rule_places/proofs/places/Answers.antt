@@ -39,12 +39,6 @@ bounds-ws-x-in-loop-k-2 c = omega (arith, c.requires.inside, length_words c.args
 pub overflow_add-s : goal.overflow_add-s
 overflow_add-s c = omega (arith, tally_few c.loop-k.invariant.0 c.loop-k.invariant.1, c.one-s.ensures.1)
 
-pub overflow_add-k : goal.overflow_add-k
-overflow_add-k c = omega arith
-
-pub loop-k-smaller : goal.loop-k-smaller
-loop-k-smaller c = omega arith
-
 pub loop-k-preserved : goal.loop-k-preserved
 loop-k-preserved c = (
   omega arith,

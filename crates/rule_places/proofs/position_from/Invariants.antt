@@ -7,6 +7,3 @@ use Rattle.rule_places.proofs.position_from.Given as goal
 
 abbrev pub invariant-loop-i : goal.invariant-loop-i
 invariant-loop-i l = (l.i ≤ l.n) × (l.i + place_at (drop l.i (words l.ws)) l.left ≡ l.initial.i + place_at (drop l.initial.i (words l.ws)) l.initial.left)
-
-abbrev pub decreases-loop-i : goal.decreases-loop-i
-decreases-loop-i l = l.n - l.i

@@ -5,5 +5,5 @@ use Rattle.mem_words.specs.declared.Word.TheVariants.{Bad}
 use Rattle.mem_words.specs.Words.{words}
 use Rattle.solve_fields.proofs.peek.Goals as goal
 
-pub returns : goal.returns
-returns c = sym (get_or-eq_default (words c.args.t.now) Bad (omega (arith, c.count.ensures.is)))
+pub returns-else-i-count : goal.returns-else-i-count
+returns-else-i-count c = sym (get_or-eq_default (words c.args.t.now) Bad (omega (arith, c.count.ensures.is)))

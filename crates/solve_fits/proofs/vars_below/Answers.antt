@@ -14,14 +14,8 @@ loop-i-init c = (omega arith, λ k l. absurd (omega arith))
 pub get-requires : goal.get-requires
 get-requires c = omega (arith, c.count-n.ensures.is)
 
-pub overflow_add-i : goal.overflow_add-i
-overflow_add-i c = omega (arith, c.count-n.ensures.small)
-
 pub returns-then-limit-v : goal.returns-then-limit-v
 returns-then-limit-v c = vars_not (words c.args.t.now) c.args.limit c.loop-i.i (omega (arith, c.var_of-v.ensures, ap var_of c.get.ensures.is))
-
-pub loop-i-smaller : goal.loop-i-smaller
-loop-i-smaller c = omega arith
 
 pub loop-i-preserved : goal.loop-i-preserved
 loop-i-preserved c = (omega arith, low_more (words c.args.t.now) c.args.limit c.loop-i.i c.loop-i.invariant.1 (omega (arith, c.var_of-v.ensures, ap var_of c.get.ensures.is)))

@@ -14,12 +14,6 @@ overflow_add-k c = omega (arith, c.requires.room, length_words c.args.out.now)
 pub put-requires : goal.put-requires
 put-requires c = record { inside = omega (arith, c.requires.room, c.loop-i.invariant.2.long); small = record { value = omega (arith, c.requires.few) } }
 
-pub overflow_add-i : goal.overflow_add-i
-overflow_add-i c = omega (arith, c.requires.few)
-
-pub loop-i-smaller : goal.loop-i-smaller
-loop-i-smaller c = omega arith
-
 pub loop-i-preserved : goal.loop-i-preserved
 loop-i-preserved c = (omega arith, c.put.auto.b ∙ c.loop-i.invariant.1, frees_more (omega (arith, c.requires.room, c.loop-i.invariant.2.long)) c.loop-i.invariant.2 c.put.ensures)
 

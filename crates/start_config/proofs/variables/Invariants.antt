@@ -7,6 +7,3 @@ use Rattle.start_config.proofs.variables.Given as goal
 
 abbrev pub invariant-loop-i : goal.invariant-loop-i
 invariant-loop-i l = (l.i ≤ l.v) × (length l.out ≡ length l.initial.out) × Grown (words l.initial.out) l.k (frees l.i) (words l.out) (l.k + l.i)
-
-abbrev pub decreases-loop-i : goal.decreases-loop-i
-decreases-loop-i l = l.v - l.i

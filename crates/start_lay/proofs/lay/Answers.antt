@@ -10,10 +10,10 @@ use borrow.Author.Rules.{rules}
 use Rattle.start_lay.proofs.lay.Goals as goal
 
 pub widen-requires : goal.widen-requires
-widen-requires c = record { source = c.requires.variables; room = omega (arith, c.requires.few_variables, c.variables_space-variables.ensures, length_triples c.variables_space-variables.result) }
+widen-requires c = record { source = c.requires.variables; room = omega (arith, c.requires.few_variables, c.zeros-variables.ensures, length_triples c.zeros-variables.result) }
 
 pub first-n-requires : goal.first-n-requires
-first-n-requires c = record { source = c.requires.goal; short = omega (arith, c.requires.few_words); few = omega (arith, c.requires.few_variables); room = omega (arith, c.requires.few_words, c.words_space-conf.ensures, length_words c.words_space-conf.result) }
+first-n-requires c = record { source = c.requires.goal; short = omega (arith, c.requires.few_words); few = omega (arith, c.requires.few_variables); room = omega (arith, c.requires.few_words, c.zeros-conf.ensures, length_words c.zeros-conf.result) }
 
 pub fill-requires : goal.fill-requires
 fill-requires c =
@@ -25,9 +25,9 @@ fill-requires c =
       names = p.names;
       rules = p.rules;
       together = p.together;
-      variables = omega (arith, p.few_variables, c.variables_space-variables.ensures, c.widen.auto.out);
+      variables = omega (arith, p.few_variables, c.zeros-variables.ensures, c.widen.auto.out);
       few_variables = p.few_variables;
-      words = omega (arith, p.few_words, n, p.goal, c.words_space-conf.ensures, c.first-n.auto.out);
+      words = omega (arith, p.few_words, n, p.goal, c.zeros-conf.ensures, c.first-n.auto.out);
       few_words = omega (arith, p.few_words, n);
     }
 
@@ -37,6 +37,6 @@ returns c =
     let p = c.requires in
     let n = few_grown (words a.goal.now) a.b a.v p.goal c.first-n.ensures in
     laid_out a.store.now c.header_bytes-header.result a.cells.now a.rules.now (shorts a.order.now) _ _ _ (words a.goal.now) a.m a.a a.v a.b c.first-n.result _ p
-    c.widen.ensures (omega (arith, p.few_variables, c.variables_space-variables.ensures, c.widen.auto.out))
-    c.first-n.ensures (omega (arith, p.few_words, n, c.words_space-conf.ensures, c.first-n.auto.out))
+    c.widen.ensures (omega (arith, p.few_variables, c.zeros-variables.ensures, c.widen.auto.out))
+    c.first-n.ensures (omega (arith, p.few_words, n, c.zeros-conf.ensures, c.first-n.auto.out))
     c.header_bytes-header.ensures c.fill.ensures.0 c.fill.ensures.1

@@ -3,9 +3,9 @@ use Rattle.step_frames.specs.Frames.{frames_of}
 use Rattle.step_frames.proofs.Frames.{can_put}
 use Rattle.step_frames.proofs.put.Goals as goal
 
-pub put2-requires : goal.put2-requires
-put2-requires c = can_put c.requires
+pub put-requires-clause-can : goal.put-requires-clause-can
+put-requires-clause-can c = can_put c.requires
 
 pub returns : goal.returns
 unfolding frames_of
-returns c = record { list = c.put2.ensures.part; rest = c.put2.ensures.rest }
+returns c = record { list = c.put.ensures.part; rest = c.put.ensures.rest }

@@ -13,12 +13,6 @@ returns-then-is_kind c = operators_some (words c.args.t.now) c.args.g
 pub returns-then-is_kind-2 : goal.returns-then-is_kind-2
 returns-then-is_kind-2 c = operators_some (words c.args.t.now) c.args.g
 
-pub overflow_add-j : goal.overflow_add-j
-overflow_add-j c = omega (arith, c.end_of-e.ensures.1, length_words c.args.t.now)
-
-pub loop-j-smaller : goal.loop-j-smaller
-loop-j-smaller c = omega arith
-
 pub loop-j-preserved : goal.loop-j-preserved
 loop-j-preserved c = (omega (arith, c.loop-j.invariant.0), operators_next (words c.args.t.now) c.args.g c.loop-j.j c.is_kind.result c.is_kind-in-loop-j.result c.is_kind.ensures c.if-is_kind.false c.is_kind-in-loop-j.ensures c.if-is_kind-2.false c.loop-j.invariant.1)
 

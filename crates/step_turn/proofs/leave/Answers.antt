@@ -1,4 +1,5 @@
 -- The four numbers of the entry, and back. Assumes nothing.
+use mathlib.Core.Path.{refl}
 use native.Mathlib.Omega.{arith}
 use Rattle.step_turn.proofs.Leaving.{leave_read, leave_first, back_can, left_of}
 use Rattle.step_turn.proofs.leave.Goals as goal
@@ -34,4 +35,4 @@ pub back-requires : goal.back-requires
 back-requires c = back_can c.get-m.result c.requires c.get-m.ensures.is
 
 pub returns : goal.returns
-returns c = left_of c.get-d.result c.get-u.result c.get-m.result c.get-a.result c.get-d.ensures.is c.get-u.ensures.is c.get-m.ensures.is c.get-a.ensures.is c.back.ensures
+returns c = left_of _ c.get-d.ensures.is refl c.get-u.ensures.is c.get-m.ensures.is c.get-a.ensures.is c.back.ensures

@@ -21,8 +21,8 @@ overflow_add-result c = omega (arith, depth_few c.requires, length_words c.args.
 pub leave-requires : goal.leave-requires
 leave-requires c = leave_can (words c.args.t.now) c.requires.goal _ _ c.args.j _ _ _ _ _ c.requires.can c.requires.stood c.requires.low (is_closes (words c.args.t.now) c.args.j c.get-x.result c.word_shape-s.result c.get-x.ensures.is c.word_shape-s.ensures c.in-Closes.is) (omega arith)
 
-pub returns-then-d-eq0 : goal.returns-then-d-eq0
-returns-then-d-eq0 c = record {
+pub returns-then-at-eq0 : goal.returns-then-at-eq0
+returns-then-at-eq0 c = record {
   goes = λ g o h s l. leave_on (words c.args.t.now) g o _ c.args.j _ _ _ _ _ h s l (is_closes (words c.args.t.now) c.args.j c.get-x.result c.word_shape-s.result c.get-x.ensures.is c.word_shape-s.ensures c.in-Closes.is) (omega arith) _ c.leave.result c.leave.ensures;
   locals = moved_locals c.leave.ensures.rest;
   rest = outside_wide 0 466944 (omega arith) (omega arith) c.leave.ensures.rest;
@@ -35,8 +35,8 @@ returns-in-Box c = c.enter.ensures
 pub returns-in-Opens : goal.returns-in-Opens
 returns-in-Opens c = record { goes = λ g o h s l. let q = is_opens (words c.args.t.now) c.args.j c.get-x.result c.word_shape-s.result c.get-x.ensures.is c.word_shape-s.ensures c.in-Opens.is in opens_on (words c.args.t.now) g o _ c.args.j _ _ _ _ _ h s l q.0 q.1; locals = refl; rest = record { before = refl; after = refl; long = refl }; laid = c.requires.stood.at.walk.laid }
 
-pub returns-else-d-eq0 : goal.returns-else-d-eq0
-returns-else-d-eq0 c = record { goes = λ g o h s l. closes_on (words c.args.t.now) g o _ c.args.j _ _ _ _ _ h s l (is_closes (words c.args.t.now) c.args.j c.get-x.result c.word_shape-s.result c.get-x.ensures.is c.word_shape-s.ensures c.in-Closes.is) (λ z. omega (arith, z)); locals = refl; rest = record { before = refl; after = refl; long = refl }; laid = c.requires.stood.at.walk.laid }
+pub returns-else-at-eq0 : goal.returns-else-at-eq0
+returns-else-at-eq0 c = record { goes = λ g o h s l. closes_on (words c.args.t.now) g o _ c.args.j _ _ _ _ _ h s l (is_closes (words c.args.t.now) c.args.j c.get-x.result c.word_shape-s.result c.get-x.ensures.is c.word_shape-s.ensures c.in-Closes.is) (λ z. omega (arith, z)); locals = refl; rest = record { before = refl; after = refl; long = refl }; laid = c.requires.stood.at.walk.laid }
 
 pub returns-in-Else : goal.returns-in-Else
 returns-in-Else c = record { goes = λ g o h s l. let q = is_else (words c.args.t.now) c.args.j c.get-x.result c.word_shape-s.result c.get-x.ensures.is c.word_shape-s.ensures c.in-Else.is in else_on (words c.args.t.now) g o _ c.args.j _ _ _ _ _ h s l q.0 q.1; locals = refl; rest = record { before = refl; after = refl; long = refl }; laid = c.requires.stood.at.walk.laid }

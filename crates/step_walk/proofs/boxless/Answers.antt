@@ -10,12 +10,6 @@ loop-j-init c = (omega arith, searched_first (words c.args.t.now) c.args.g)
 pub returns-then-is_kind : goal.returns-then-is_kind
 returns-then-is_kind c = searched_found (words c.args.t.now) c.args.g c.loop-j.j c.is_kind.result c.loop-j.invariant.0 (omega (arith, c.end_of-e.ensures.0)) c.is_kind.ensures c.if-is_kind.true
 
-pub overflow_add-j : goal.overflow_add-j
-overflow_add-j c = omega (arith, c.end_of-e.ensures.1, length_words c.args.t.now)
-
-pub loop-j-smaller : goal.loop-j-smaller
-loop-j-smaller c = omega arith
-
 pub loop-j-preserved : goal.loop-j-preserved
 loop-j-preserved c = (omega (arith, c.loop-j.invariant.0), searched_next (words c.args.t.now) c.args.g c.loop-j.j c.is_kind.result c.is_kind.ensures c.if-is_kind.false c.loop-j.invariant.1)
 

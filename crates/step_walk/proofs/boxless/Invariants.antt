@@ -5,6 +5,3 @@ use Rattle.step_walk.proofs.boxless.Given as goal
 
 abbrev pub invariant-loop-j : goal.invariant-loop-j
 invariant-loop-j l = (l.g ≤ l.j) × Searched (words l.t) l.g l.j
-
-abbrev pub decreases-loop-j : goal.decreases-loop-j
-decreases-loop-j l = l.e + 1 - l.j

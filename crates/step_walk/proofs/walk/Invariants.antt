@@ -6,7 +6,7 @@ use Rattle.step_walk.specs.Calm.{Walks}
 use Rattle.step_walk.proofs.walk.Given as goal
 
 abbrev pub invariant-loop-j : goal.invariant-loop-j
-invariant-loop-j l = (l.g ≤ l.j) × (l.j ≤ l.e) × Walks (words l.t) l.g l.n l.w l.j l.d l.k l.x l.y l.z × (length l.w ≡ length l.initial.w)
+invariant-loop-j l = (l.g ≤ l.j) × (l.j ≤ l.e) × Walks (words l.t) l.g l.environment.trail l.w l.j l.at.depth l.at.boxes l.at.mark.used l.at.mark.trail l.at.mark.applications × (length l.w ≡ length l.initial.w)
 
 abbrev pub decreases-loop-j : goal.decreases-loop-j
 decreases-loop-j l = l.e - l.j

@@ -62,19 +62,10 @@ bounds-ws-x-in-loop-k-5 c = omega (arith, c.requires.inside, length_words c.args
 pub overflow_add-q : goal.overflow_add-q
 overflow_add-q c = omega (arith, odds_few c.loop-k.invariant.0 c.loop-k.invariant.2, c.odd-q.ensures.1)
 
-pub overflow_add-k : goal.overflow_add-k
-overflow_add-k c = omega arith
-
-pub loop-k-smaller : goal.loop-k-smaller
-loop-k-smaller c = omega arith
-
 pub loop-k-preserved : goal.loop-k-preserved
 loop-k-preserved c =
     let o : Looked c.args.ws.now c.args.i c.loop-k.k (get_or c.args.m.now c.loop-k.k 0) (get_or c.args.ws.now (3 * c.args.i + c.loop-k.k) 0) (get_or c.args.ws.now (3 * c.args.i + c.loop-k.k + 1) 0) (get_or c.args.ws.now (3 * c.args.i + c.loop-k.k + 2) 0) = record { inside = c.requires.inside; near = omega arith; mark = ap (λ (l : List ℕ). get_or l c.loop-k.k 0) c.requires.marks; class = refl; low = refl; high = refl } in
     (omega arith, tallied_more c.loop-k.invariant.1 o c.one-s.ensures.0, tallied_more c.loop-k.invariant.2 o c.odd-q.ensures.0)
 
-pub returns-then-q-ne0 : goal.returns-then-q-ne0
-returns-then-q-ne0 c = record { is = λ h. absurd (omega (arith, h)) }
-
 pub returns : goal.returns
-returns c = record { is = λ h. record { parts = tallied_all (omega (arith, c.loop-k.invariant.0)) c.loop-k.invariant.1; even = subst (λ (n : ℕ). Tallied odd_one c.args.ws.now c.args.i 48 n) (omega arith) (tallied_all (omega (arith, c.loop-k.invariant.0)) c.loop-k.invariant.2) } }
+returns c = record { parts = tallied_all (omega (arith, c.loop-k.invariant.0)) c.loop-k.invariant.1; even = subst (λ (n : ℕ). Tallied odd_one c.args.ws.now c.args.i 48 n) (omega arith) (tallied_all (omega (arith, c.loop-k.invariant.0)) c.loop-k.invariant.2) }

@@ -7,6 +7,3 @@ use Rattle.store_parts.proofs.plain.Given as goal
 
 abbrev pub invariant-loop-k : goal.invariant-loop-k
 invariant-loop-k l = (l.k ≤ 48) × Tallied (word_parts Others) l.ws l.i l.k l.s × Tallied odd_one l.ws l.i l.k l.q
-
-abbrev pub decreases-loop-k : goal.decreases-loop-k
-decreases-loop-k l = 48 - l.k

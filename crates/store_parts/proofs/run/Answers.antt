@@ -12,14 +12,8 @@ loop-j-init c = (c.requires.from, counted_none (words c.args.ws.now) c.args.m c.
 pub get-w-requires : goal.get-w-requires
 get-w-requires c = omega (arith, c.requires.within)
 
-pub overflow_add-j : goal.overflow_add-j
-overflow_add-j c = omega (arith, c.requires.within, c.requires.few)
-
 pub overflow_add-r : goal.overflow_add-r
 overflow_add-r c = omega (arith, c.loop-j.invariant.1.small, c.requires.within, c.requires.few, word_few c.loop-j.a c.get-w.result c.get-w.ensures.small, c.word_parts-r.ensures)
-
-pub loop-j-smaller : goal.loop-j-smaller
-loop-j-smaller c = omega arith
 
 pub loop-j-preserved : goal.loop-j-preserved
 loop-j-preserved c = (omega arith, counted_next (words c.args.ws.now) c.args.m c.loop-j.a c.behind_word-a.result c.args.i c.loop-j.r c.word_parts-r.result c.loop-j.j c.get-w.result (omega (arith, c.requires.within)) c.loop-j.invariant.1 c.get-w.ensures c.word_parts-r.ensures c.behind_word-a.ensures)

@@ -5,6 +5,3 @@ use Rattle.store_parts.proofs.run.Given as goal
 
 abbrev pub invariant-loop-j : goal.invariant-loop-j
 invariant-loop-j l = (l.j ≤ l.e) × Counted (words l.ws) l.initial.a l.i l.a l.r l.j
-
-abbrev pub decreases-loop-j : goal.decreases-loop-j
-decreases-loop-j l = l.e - l.j

@@ -3,8 +3,8 @@ use native.Mathlib.Omega.{arith}
 use Rattle.store_views.proofs.Header.{can_read, was_read}
 use Rattle.store_views.proofs.config_count.Goals as goal
 
-pub get3-requires : goal.get3-requires
-get3-requires c = can_read _ _ _ (omega arith) c.requires
+pub get-requires-clause-can : goal.get-requires-clause-can
+get-requires-clause-can c = can_read _ _ _ (omega arith) c.requires
 
 pub returns : goal.returns
-returns c = was_read c.args.b.now 4 _ c.get3.ensures
+returns c = was_read c.args.b.now 4 _ c.get.ensures

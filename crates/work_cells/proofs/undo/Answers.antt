@@ -7,9 +7,6 @@ use Rattle.work_cells.proofs.undo.Goals as goal
 pub loop-i-init : goal.loop-i-init
 loop-i-init c = undo_none c.requires.0 c.requires.1
 
-pub overflow_sub-i : goal.overflow_sub-i
-overflow_sub-i c = omega arith
-
 pub var_get-x-requires : goal.var_get-x-requires
 var_get-x-requires c = record { laid = c.loop-i.invariant.laid; inside = omega (arith, c.loop-i.invariant.high, c.requires.1.room_x, length_var c.requires.0) }
 
@@ -18,9 +15,6 @@ old_get-o-requires c = record { laid = c.loop-i.invariant.laid; inside = omega (
 
 pub cell_put-requires : goal.cell_put-requires
 cell_put-requires c = record { laid = c.loop-i.invariant.laid; inside = c.var_get-x.ensures.small; small = c.old_get-o.ensures.small }
-
-pub loop-i-smaller : goal.loop-i-smaller
-loop-i-smaller c = omega arith
 
 pub loop-i-preserved : goal.loop-i-preserved
 loop-i-preserved c = undo_one (omega arith) c.loop-i.invariant c.var_get-x.ensures c.old_get-o.ensures c.cell_put.ensures

@@ -3,6 +3,3 @@ use Rattle.work_cells.proofs.undo.Given as goal
 
 abbrev pub invariant-loop-i : goal.invariant-loop-i
 invariant-loop-i l = Undoing l.initial.w l.n l.m l.w l.i
-
-abbrev pub decreases-loop-i : goal.decreases-loop-i
-decreases-loop-i l = l.i

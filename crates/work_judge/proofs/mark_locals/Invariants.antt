@@ -1,5 +1,5 @@
 use mathlib.Core.Path.{◌≡◌}
-use Prim.Native.Nat.{◌-◌, ◌≤◌}
+use Prim.Native.Nat.{◌≤◌}
 use lib.ListN.{length, take}
 use Rattle.mem_numbers.specs.Numbers.{shorts}
 use Rattle.work_tables.specs.Tables.{Laid}
@@ -8,6 +8,3 @@ use Rattle.work_judge.proofs.mark_locals.Given as goal
 
 abbrev pub invariant-loop-i : goal.invariant-loop-i
 invariant-loop-i l = (l.i ≤ l.k) × (l.k ≡ length (shorts l.locals)) × Laid l.initial.w × Locals l.initial.w (take l.i (shorts l.locals)) l.w
-
-abbrev pub decreases-loop-i : goal.decreases-loop-i
-decreases-loop-i l = l.k - l.i

@@ -1,7 +1,8 @@
 -- The laws are those of `solve_quiet`, at the tables of the slice. Assumes nothing.
 use Rattle.solve_quiet.specs.Owners.{CanLookAll, Looking}
 use Rattle.work_quiet.specs.Quiets.{kept_undone, kept_searched}
-use mathlib.Core.Path.{subst}
+use mathlib.Core.Path.{ap, ◌∙◌, subst}
+use Rattle.std.specs.Prelude.{Err}
 use mathlib.Core.Bool.{Bool, true, false}
 use Prim.Native.Nat.{ℕ}
 use mathlib.Core.List.{List}
@@ -22,19 +23,19 @@ pub own_all-o-requires : goal.own_all-o-requires
 own_all-o-requires c = (laid_after c.requires.0 c.acyclic_since.ensures.1, looked_to (λ (L T X C : List ℕ). CanLookAll L T X C c.args.from c.args.n) c.acyclic_since.ensures.1 c.requires.2.looks)
 
 pub undo-requires : goal.undo-requires
-undo-requires c = (laid_after (laid_after c.requires.0 c.acyclic_since.ensures.1) c.own_all-o.ensures.1, can_undo (cells_of c.args.w.now) (vars_of c.args.w.now) (olds_of c.args.w.now) c.args.n _ _ _ _ (marks_apart (locals_of c.args.w.now) (cells_of c.args.w.now) (vars_of c.args.w.now) (olds_of c.args.w.now) c.args.from c.args.n _ _ _ c.args.n _ c.own_all-o.result (looked_at (λ (L T X C : List ℕ). Looking L T X C c.args.from c.args.n (cells_of c.own_all-o.new.w) (vars_of c.own_all-o.new.w) (olds_of c.own_all-o.new.w) c.args.n c.own_all-o.result) c.acyclic_since.ensures.1 c.own_all-o.ensures.0) c.in-Apart.is))
+undo-requires c = (laid_after (laid_after c.requires.0 c.acyclic_since.ensures.1) c.own_all-o.ensures.1, can_undo (cells_of c.args.w.now) (vars_of c.args.w.now) (olds_of c.args.w.now) c.args.n _ _ _ _ (marks_apart (locals_of c.args.w.now) (cells_of c.args.w.now) (vars_of c.args.w.now) (olds_of c.args.w.now) c.args.from c.args.n _ _ _ c.args.n _ c.own_all-o.result (looked_at (λ (L T X C : List ℕ). Looking L T X C c.args.from c.args.n (cells_of c.own_all-o.new.w) (vars_of c.own_all-o.new.w) (olds_of c.own_all-o.new.w) c.args.n c.own_all-o.result) c.acyclic_since.ensures.1 c.own_all-o.ensures.0) c.in-Ok.is))
 
-pub undo-requires-in-Joint : goal.undo-requires-in-Joint
-undo-requires-in-Joint c = (laid_after (laid_after c.requires.0 c.acyclic_since.ensures.1) c.own_all-o.ensures.1, can_undo (cells_of c.args.w.now) (vars_of c.args.w.now) (olds_of c.args.w.now) c.args.n _ _ _ _ (marks_joint (locals_of c.args.w.now) (cells_of c.args.w.now) (vars_of c.args.w.now) (olds_of c.args.w.now) c.args.from c.args.n _ _ _ c.args.n _ c.own_all-o.result (looked_at (λ (L T X C : List ℕ). Looking L T X C c.args.from c.args.n (cells_of c.own_all-o.new.w) (vars_of c.own_all-o.new.w) (olds_of c.own_all-o.new.w) c.args.n c.own_all-o.result) c.acyclic_since.ensures.1 c.own_all-o.ensures.0) c.in-Joint.is))
+pub undo-requires-in-Err-Joint : goal.undo-requires-in-Err-Joint
+undo-requires-in-Err-Joint c = (laid_after (laid_after c.requires.0 c.acyclic_since.ensures.1) c.own_all-o.ensures.1, can_undo (cells_of c.args.w.now) (vars_of c.args.w.now) (olds_of c.args.w.now) c.args.n _ _ _ _ (marks_joint (locals_of c.args.w.now) (cells_of c.args.w.now) (vars_of c.args.w.now) (olds_of c.args.w.now) c.args.from c.args.n _ _ _ c.args.n _ c.own_all-o.result (looked_at (λ (L T X C : List ℕ). Looking L T X C c.args.from c.args.n (cells_of c.own_all-o.new.w) (vars_of c.own_all-o.new.w) (olds_of c.own_all-o.new.w) c.args.n c.own_all-o.result) c.acyclic_since.ensures.1 c.own_all-o.ensures.0) (c.in-Err-Joint.is ∙ ap Err (rw c.in-Err-Joint.is at c.in-Err-Joint.field-0-is))))
 
-pub undo-requires-in-NoPlace : goal.undo-requires-in-NoPlace
-undo-requires-in-NoPlace c = (laid_after (laid_after c.requires.0 c.acyclic_since.ensures.1) c.own_all-o.ensures.1, can_undo (cells_of c.args.w.now) (vars_of c.args.w.now) (olds_of c.args.w.now) c.args.n _ _ _ _ (marks_full (locals_of c.args.w.now) (cells_of c.args.w.now) (vars_of c.args.w.now) (olds_of c.args.w.now) c.args.from c.args.n _ _ _ c.args.n _ c.own_all-o.result (looked_at (λ (L T X C : List ℕ). Looking L T X C c.args.from c.args.n (cells_of c.own_all-o.new.w) (vars_of c.own_all-o.new.w) (olds_of c.own_all-o.new.w) c.args.n c.own_all-o.result) c.acyclic_since.ensures.1 c.own_all-o.ensures.0) c.in-NoPlace.is))
+pub undo-requires-in-Err-NoPlace : goal.undo-requires-in-Err-NoPlace
+undo-requires-in-Err-NoPlace c = (laid_after (laid_after c.requires.0 c.acyclic_since.ensures.1) c.own_all-o.ensures.1, can_undo (cells_of c.args.w.now) (vars_of c.args.w.now) (olds_of c.args.w.now) c.args.n _ _ _ _ (marks_full (locals_of c.args.w.now) (cells_of c.args.w.now) (vars_of c.args.w.now) (olds_of c.args.w.now) c.args.from c.args.n _ _ _ c.args.n _ c.own_all-o.result (looked_at (λ (L T X C : List ℕ). Looking L T X C c.args.from c.args.n (cells_of c.own_all-o.new.w) (vars_of c.own_all-o.new.w) (olds_of c.own_all-o.new.w) c.args.n c.own_all-o.result) c.acyclic_since.ensures.1 c.own_all-o.ensures.0) (c.in-Err-NoPlace.is ∙ ap Err (rw c.in-Err-NoPlace.is at c.in-Err-NoPlace.field-0-is))))
 
-pub returns-in-Apart : goal.returns-in-Apart
-returns-in-Apart c = (calmed_apart (log_of c.args.used c.args.w.now) (locals_of c.args.w.now) (pos_of c.args.w.now) (cells_of c.args.w.now) (vars_of c.args.w.now) (olds_of c.args.w.now) c.args.n c.args.a c.args.from c.requires.2.state.sound.up (subst (λ (r : Bool). TestedSince (log_of c.args.used c.args.w.now) (pos_of c.args.w.now) (cells_of c.args.w.now) (vars_of c.args.w.now) (olds_of c.args.w.now) c.args.n c.args.a c.args.from r) (c.if-not-acyclic_since.false) c.acyclic_since.ensures.0) _ _ _ _ (went_apart (locals_of c.args.w.now) (cells_of c.args.w.now) (vars_of c.args.w.now) (olds_of c.args.w.now) c.args.from c.args.n _ _ _ c.args.n _ c.own_all-o.result (looked_at (λ (L T X C : List ℕ). Looking L T X C c.args.from c.args.n (cells_of c.own_all-o.new.w) (vars_of c.own_all-o.new.w) (olds_of c.own_all-o.new.w) c.args.n c.own_all-o.result) c.acyclic_since.ensures.1 c.own_all-o.ensures.0) c.in-Apart.is), kept_undone (kept_back (cells_of c.args.w.now) (vars_of c.args.w.now) (olds_of c.args.w.now) c.args.n _ _ _ _ _ (marks_apart (locals_of c.args.w.now) (cells_of c.args.w.now) (vars_of c.args.w.now) (olds_of c.args.w.now) c.args.from c.args.n _ _ _ c.args.n _ c.own_all-o.result (looked_at (λ (L T X C : List ℕ). Looking L T X C c.args.from c.args.n (cells_of c.own_all-o.new.w) (vars_of c.own_all-o.new.w) (olds_of c.own_all-o.new.w) c.args.n c.own_all-o.result) c.acyclic_since.ensures.1 c.own_all-o.ensures.0) c.in-Apart.is) c.undo.ensures.cells) c.undo.ensures, outside_then (outside_then (searched_tried c.acyclic_since.ensures.1) (moved_tried c.own_all-o.ensures.1)) (moved_tried c.undo.ensures.rest))
+pub returns-in-Ok : goal.returns-in-Ok
+returns-in-Ok c = (calmed_apart (log_of c.args.used c.args.w.now) (locals_of c.args.w.now) (pos_of c.args.w.now) (cells_of c.args.w.now) (vars_of c.args.w.now) (olds_of c.args.w.now) c.args.n c.args.a c.args.from c.requires.2.state.sound.up (subst (λ (r : Bool). TestedSince (log_of c.args.used c.args.w.now) (pos_of c.args.w.now) (cells_of c.args.w.now) (vars_of c.args.w.now) (olds_of c.args.w.now) c.args.n c.args.a c.args.from r) (c.if-not-acyclic_since.false) c.acyclic_since.ensures.0) _ _ _ _ (went_apart (locals_of c.args.w.now) (cells_of c.args.w.now) (vars_of c.args.w.now) (olds_of c.args.w.now) c.args.from c.args.n _ _ _ c.args.n _ c.own_all-o.result (looked_at (λ (L T X C : List ℕ). Looking L T X C c.args.from c.args.n (cells_of c.own_all-o.new.w) (vars_of c.own_all-o.new.w) (olds_of c.own_all-o.new.w) c.args.n c.own_all-o.result) c.acyclic_since.ensures.1 c.own_all-o.ensures.0) c.in-Ok.is), kept_undone (kept_back (cells_of c.args.w.now) (vars_of c.args.w.now) (olds_of c.args.w.now) c.args.n _ _ _ _ _ (marks_apart (locals_of c.args.w.now) (cells_of c.args.w.now) (vars_of c.args.w.now) (olds_of c.args.w.now) c.args.from c.args.n _ _ _ c.args.n _ c.own_all-o.result (looked_at (λ (L T X C : List ℕ). Looking L T X C c.args.from c.args.n (cells_of c.own_all-o.new.w) (vars_of c.own_all-o.new.w) (olds_of c.own_all-o.new.w) c.args.n c.own_all-o.result) c.acyclic_since.ensures.1 c.own_all-o.ensures.0) c.in-Ok.is) c.undo.ensures.cells) c.undo.ensures, outside_then (outside_then (searched_tried c.acyclic_since.ensures.1) (moved_tried c.own_all-o.ensures.1)) (moved_tried c.undo.ensures.rest))
 
-pub returns-in-Joint : goal.returns-in-Joint
-returns-in-Joint c = (calmed_joint (log_of c.args.used c.args.w.now) (locals_of c.args.w.now) (pos_of c.args.w.now) (cells_of c.args.w.now) (vars_of c.args.w.now) (olds_of c.args.w.now) c.args.n c.args.a c.args.from c.requires.2.state.sound.up (loud_joint (locals_of c.args.w.now) (cells_of c.args.w.now) (vars_of c.args.w.now) (olds_of c.args.w.now) c.args.from c.args.n _ _ _ c.args.n _ c.own_all-o.result (looked_at (λ (L T X C : List ℕ). Looking L T X C c.args.from c.args.n (cells_of c.own_all-o.new.w) (vars_of c.own_all-o.new.w) (olds_of c.own_all-o.new.w) c.args.n c.own_all-o.result) c.acyclic_since.ensures.1 c.own_all-o.ensures.0) c.in-Joint.is), kept_undone (kept_back (cells_of c.args.w.now) (vars_of c.args.w.now) (olds_of c.args.w.now) c.args.n _ _ _ _ _ (marks_joint (locals_of c.args.w.now) (cells_of c.args.w.now) (vars_of c.args.w.now) (olds_of c.args.w.now) c.args.from c.args.n _ _ _ c.args.n _ c.own_all-o.result (looked_at (λ (L T X C : List ℕ). Looking L T X C c.args.from c.args.n (cells_of c.own_all-o.new.w) (vars_of c.own_all-o.new.w) (olds_of c.own_all-o.new.w) c.args.n c.own_all-o.result) c.acyclic_since.ensures.1 c.own_all-o.ensures.0) c.in-Joint.is) c.undo-in-Joint.ensures.cells) c.undo-in-Joint.ensures, outside_then (outside_then (searched_tried c.acyclic_since.ensures.1) (moved_tried c.own_all-o.ensures.1)) (moved_tried c.undo-in-Joint.ensures.rest))
+pub returns-in-Err-Joint : goal.returns-in-Err-Joint
+returns-in-Err-Joint c = (calmed_joint (log_of c.args.used c.args.w.now) (locals_of c.args.w.now) (pos_of c.args.w.now) (cells_of c.args.w.now) (vars_of c.args.w.now) (olds_of c.args.w.now) c.args.n c.args.a c.args.from c.requires.2.state.sound.up (loud_joint (locals_of c.args.w.now) (cells_of c.args.w.now) (vars_of c.args.w.now) (olds_of c.args.w.now) c.args.from c.args.n _ _ _ c.args.n _ c.own_all-o.result (looked_at (λ (L T X C : List ℕ). Looking L T X C c.args.from c.args.n (cells_of c.own_all-o.new.w) (vars_of c.own_all-o.new.w) (olds_of c.own_all-o.new.w) c.args.n c.own_all-o.result) c.acyclic_since.ensures.1 c.own_all-o.ensures.0) (c.in-Err-Joint.is ∙ ap Err (rw c.in-Err-Joint.is at c.in-Err-Joint.field-0-is))), kept_undone (kept_back (cells_of c.args.w.now) (vars_of c.args.w.now) (olds_of c.args.w.now) c.args.n _ _ _ _ _ (marks_joint (locals_of c.args.w.now) (cells_of c.args.w.now) (vars_of c.args.w.now) (olds_of c.args.w.now) c.args.from c.args.n _ _ _ c.args.n _ c.own_all-o.result (looked_at (λ (L T X C : List ℕ). Looking L T X C c.args.from c.args.n (cells_of c.own_all-o.new.w) (vars_of c.own_all-o.new.w) (olds_of c.own_all-o.new.w) c.args.n c.own_all-o.result) c.acyclic_since.ensures.1 c.own_all-o.ensures.0) (c.in-Err-Joint.is ∙ ap Err (rw c.in-Err-Joint.is at c.in-Err-Joint.field-0-is))) c.undo-in-Err-Joint.ensures.cells) c.undo-in-Err-Joint.ensures, outside_then (outside_then (searched_tried c.acyclic_since.ensures.1) (moved_tried c.own_all-o.ensures.1)) (moved_tried c.undo-in-Err-Joint.ensures.rest))
 
-pub returns-in-NoPlace : goal.returns-in-NoPlace
-returns-in-NoPlace c = (calmed_none (log_of c.args.used c.args.w.now) (locals_of c.args.w.now) (pos_of c.args.w.now) (cells_of c.args.w.now) (vars_of c.args.w.now) (olds_of c.args.w.now) c.args.n c.args.a c.args.from _ _ _ _ c.requires.2.state (marks_full (locals_of c.args.w.now) (cells_of c.args.w.now) (vars_of c.args.w.now) (olds_of c.args.w.now) c.args.from c.args.n _ _ _ c.args.n _ c.own_all-o.result (looked_at (λ (L T X C : List ℕ). Looking L T X C c.args.from c.args.n (cells_of c.own_all-o.new.w) (vars_of c.own_all-o.new.w) (olds_of c.own_all-o.new.w) c.args.n c.own_all-o.result) c.acyclic_since.ensures.1 c.own_all-o.ensures.0) c.in-NoPlace.is) (full_place (locals_of c.args.w.now) (cells_of c.args.w.now) (vars_of c.args.w.now) (olds_of c.args.w.now) c.args.from c.args.n _ _ _ c.args.n _ c.own_all-o.result (looked_at (λ (L T X C : List ℕ). Looking L T X C c.args.from c.args.n (cells_of c.own_all-o.new.w) (vars_of c.own_all-o.new.w) (olds_of c.own_all-o.new.w) c.args.n c.own_all-o.result) c.acyclic_since.ensures.1 c.own_all-o.ensures.0) c.in-NoPlace.is), kept_undone (kept_back (cells_of c.args.w.now) (vars_of c.args.w.now) (olds_of c.args.w.now) c.args.n _ _ _ _ _ (marks_full (locals_of c.args.w.now) (cells_of c.args.w.now) (vars_of c.args.w.now) (olds_of c.args.w.now) c.args.from c.args.n _ _ _ c.args.n _ c.own_all-o.result (looked_at (λ (L T X C : List ℕ). Looking L T X C c.args.from c.args.n (cells_of c.own_all-o.new.w) (vars_of c.own_all-o.new.w) (olds_of c.own_all-o.new.w) c.args.n c.own_all-o.result) c.acyclic_since.ensures.1 c.own_all-o.ensures.0) c.in-NoPlace.is) c.undo-in-NoPlace.ensures.cells) c.undo-in-NoPlace.ensures, outside_then (outside_then (searched_tried c.acyclic_since.ensures.1) (moved_tried c.own_all-o.ensures.1)) (moved_tried c.undo-in-NoPlace.ensures.rest))
+pub returns-in-Err-NoPlace : goal.returns-in-Err-NoPlace
+returns-in-Err-NoPlace c = (calmed_none (log_of c.args.used c.args.w.now) (locals_of c.args.w.now) (pos_of c.args.w.now) (cells_of c.args.w.now) (vars_of c.args.w.now) (olds_of c.args.w.now) c.args.n c.args.a c.args.from _ _ _ _ c.requires.2.state (marks_full (locals_of c.args.w.now) (cells_of c.args.w.now) (vars_of c.args.w.now) (olds_of c.args.w.now) c.args.from c.args.n _ _ _ c.args.n _ c.own_all-o.result (looked_at (λ (L T X C : List ℕ). Looking L T X C c.args.from c.args.n (cells_of c.own_all-o.new.w) (vars_of c.own_all-o.new.w) (olds_of c.own_all-o.new.w) c.args.n c.own_all-o.result) c.acyclic_since.ensures.1 c.own_all-o.ensures.0) (c.in-Err-NoPlace.is ∙ ap Err (rw c.in-Err-NoPlace.is at c.in-Err-NoPlace.field-0-is))) (full_place (locals_of c.args.w.now) (cells_of c.args.w.now) (vars_of c.args.w.now) (olds_of c.args.w.now) c.args.from c.args.n _ _ _ c.args.n _ c.own_all-o.result (looked_at (λ (L T X C : List ℕ). Looking L T X C c.args.from c.args.n (cells_of c.own_all-o.new.w) (vars_of c.own_all-o.new.w) (olds_of c.own_all-o.new.w) c.args.n c.own_all-o.result) c.acyclic_since.ensures.1 c.own_all-o.ensures.0) (c.in-Err-NoPlace.is ∙ ap Err (rw c.in-Err-NoPlace.is at c.in-Err-NoPlace.field-0-is))), kept_undone (kept_back (cells_of c.args.w.now) (vars_of c.args.w.now) (olds_of c.args.w.now) c.args.n _ _ _ _ _ (marks_full (locals_of c.args.w.now) (cells_of c.args.w.now) (vars_of c.args.w.now) (olds_of c.args.w.now) c.args.from c.args.n _ _ _ c.args.n _ c.own_all-o.result (looked_at (λ (L T X C : List ℕ). Looking L T X C c.args.from c.args.n (cells_of c.own_all-o.new.w) (vars_of c.own_all-o.new.w) (olds_of c.own_all-o.new.w) c.args.n c.own_all-o.result) c.acyclic_since.ensures.1 c.own_all-o.ensures.0) (c.in-Err-NoPlace.is ∙ ap Err (rw c.in-Err-NoPlace.is at c.in-Err-NoPlace.field-0-is))) c.undo-in-Err-NoPlace.ensures.cells) c.undo-in-Err-NoPlace.ensures, outside_then (outside_then (searched_tried c.acyclic_since.ensures.1) (moved_tried c.own_all-o.ensures.1)) (moved_tried c.undo-in-Err-NoPlace.ensures.rest))

@@ -18,12 +18,6 @@ loop-i-init c = (c.requires.0, same_noted, (omega arith, c.requires.2.le), tell_
 pub tell_one-r-requires : goal.tell_one-r-requires
 tell_one-r-requires c = (c.loop-i.invariant.0, c.requires.1, noted_to c.args.used (λ (W : List Word). CanOne W (pos_of c.loop-i.w) (cells_of c.loop-i.w) (vars_of c.loop-i.w) (olds_of c.loop-i.w) c.loop-i.m c.loop-i.k c.loop-i.i) c.loop-i.invariant.1 (record { state = c.loop-i.invariant.3.state; end = omega (arith, c.requires.2.end) }))
 
-pub overflow_add-i : goal.overflow_add-i
-overflow_add-i c = omega (arith, c.requires.2.end, c.requires.2.state.sound.long)
-
-pub loop-i-smaller : goal.loop-i-smaller
-loop-i-smaller c = omega (arith, c.loop-i.invariant.2.1)
-
 pub loop-i-preserved : goal.loop-i-preserved
 loop-i-preserved c = (laid_after c.loop-i.invariant.0 c.tell_one-r.ensures.1, outside_then c.loop-i.invariant.1 c.tell_one-r.ensures.1, (omega (arith, c.loop-i.invariant.2.0), omega arith), tell_all (log_of c.args.used c.args.w.now) (pos_of c.args.w.now) (cells_of c.args.w.now) (vars_of c.args.w.now) (olds_of c.args.w.now) c.args.n c.args.a c.args.from c.args.to c.loop-i.i (pos_of c.loop-i.w) (cells_of c.loop-i.w) (vars_of c.loop-i.w) (olds_of c.loop-i.w) c.loop-i.m c.loop-i.k c.loop-i.invariant.3 c.loop-i.invariant.2.0 (omega arith) c.requires.2.end _ _ _ _ _ _ c.tell_one-r.result (noted_at c.args.used (λ (W : List Word). Telling W (pos_of c.loop-i.w) (cells_of c.loop-i.w) (vars_of c.loop-i.w) (olds_of c.loop-i.w) c.loop-i.m c.loop-i.k (apps_at W c.loop-i.i) (one_at W c.loop-i.i) (pos_of c.tell_one-r.new.w) (cells_of c.tell_one-r.new.w) (vars_of c.tell_one-r.new.w) (olds_of c.tell_one-r.new.w) c.tell_one-r.result) c.loop-i.invariant.1 c.tell_one-r.ensures.0) c.in-All.is, before_then (pos_of c.loop-i.w) (pos_of c.tell_one-r.new.w) c.args.a c.loop-i.k _ c.loop-i.i c.loop-i.invariant.4 (subst (λ (o : Told). Telling (log_of c.args.used c.args.w.now) (pos_of c.loop-i.w) (cells_of c.loop-i.w) (vars_of c.loop-i.w) (olds_of c.loop-i.w) c.loop-i.m c.loop-i.k (apps_at (log_of c.args.used c.args.w.now) c.loop-i.i) (one_at (log_of c.args.used c.args.w.now) c.loop-i.i) (pos_of c.tell_one-r.new.w) (cells_of c.tell_one-r.new.w) (vars_of c.tell_one-r.new.w) (olds_of c.tell_one-r.new.w) o) c.in-All.is (noted_at c.args.used (λ (W : List Word). Telling W (pos_of c.loop-i.w) (cells_of c.loop-i.w) (vars_of c.loop-i.w) (olds_of c.loop-i.w) c.loop-i.m c.loop-i.k (apps_at W c.loop-i.i) (one_at W c.loop-i.i) (pos_of c.tell_one-r.new.w) (cells_of c.tell_one-r.new.w) (vars_of c.tell_one-r.new.w) (olds_of c.tell_one-r.new.w) c.tell_one-r.result) c.loop-i.invariant.1 c.tell_one-r.ensures.0)).left.old_p (subst (λ (o : Told). Ahead c.loop-i.k (c.loop-i.i + 1) (pos_of c.tell_one-r.new.w) o) c.in-All.is c.tell_one-r.ensures.2))
 

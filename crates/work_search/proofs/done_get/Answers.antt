@@ -3,9 +3,9 @@ use Rattle.work_tables.specs.Tables.{dones_of}
 use Rattle.work_tables.specs.Writes.{get_done}
 use Rattle.work_search.proofs.done_get.Goals as goal
 
-pub get4-requires : goal.get4-requires
-get4-requires c = get_done c.requires
+pub get-requires-clause-can : goal.get-requires-clause-can
+get-requires-clause-can c = get_done c.requires
 
 pub returns : goal.returns
 unfolding dones_of
-returns c = c.get4.ensures
+returns c = c.get.ensures

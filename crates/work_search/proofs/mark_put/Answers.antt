@@ -2,8 +2,8 @@
 use Rattle.work_tables.specs.Writes.{set_mark, put_mark}
 use Rattle.work_search.proofs.mark_put.Goals as goal
 
-pub put2-requires : goal.put2-requires
-put2-requires c = set_mark c.requires
+pub put-requires-clause-can : goal.put-requires-clause-can
+put-requires-clause-can c = set_mark c.requires
 
 pub returns : goal.returns
-returns c = put_mark c.requires.laid c.put2.ensures
+returns c = put_mark c.requires.laid c.put.ensures

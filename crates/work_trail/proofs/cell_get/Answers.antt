@@ -3,9 +3,9 @@ use Rattle.work_tables.specs.Tables.{cells_of}
 use Rattle.work_tables.specs.Writes.{get_cell}
 use Rattle.work_trail.proofs.cell_get.Goals as goal
 
-pub get3-requires : goal.get3-requires
-get3-requires c = get_cell c.requires
+pub get-requires-clause-can : goal.get-requires-clause-can
+get-requires-clause-can c = get_cell c.requires
 
 pub returns : goal.returns
 unfolding cells_of
-returns c = c.get3.ensures
+returns c = c.get.ensures

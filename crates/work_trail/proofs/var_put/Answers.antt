@@ -2,8 +2,8 @@
 use Rattle.work_tables.specs.Writes.{set_var, put_var}
 use Rattle.work_trail.proofs.var_put.Goals as goal
 
-pub put2-requires : goal.put2-requires
-put2-requires c = set_var c.requires
+pub put-requires-clause-can : goal.put-requires-clause-can
+put-requires-clause-can c = set_var c.requires
 
 pub returns : goal.returns
-returns c = put_var c.requires.laid c.put2.ensures
+returns c = put_var c.requires.laid c.put.ensures

@@ -1,5 +1,6 @@
 -- `read_tokens::Cursor::next` meets its contract: blanks are passed, and then the class of the byte says what is read. Assumes nothing.
 use mathlib.Core.Path.{refl}
+use mathlib.Core.Logic.{inl, inr}
 use native.Mathlib.Omega.{arith}
 use Rattle.akl.specs.Token.{small, capital, digit, underscore, other, word_class, digit_class}
 use Rattle.read_tokens.specs.declared.Kind.TheVariants.{Name, Digits, Variable}
@@ -37,7 +38,8 @@ pub returns-in-Mark : goal.returns-in-Mark
 returns-in-Mark c = reads_mark _ _ _ c.loop-at.invariant (omega arith) (rw c.in-Mark.is at c.class_of-c.ensures) _ c.mark_at.ensures
 
 pub returns-in-Underscore : goal.returns-in-Underscore
-returns-in-Underscore c = reads_bad _ _ _ c.loop-at.invariant underscore (λ x l. refl) (omega arith) (rw c.in-Underscore.is at c.class_of-c.ensures)
-
-pub returns-in-Other : goal.returns-in-Other
-returns-in-Other c = reads_bad _ _ _ c.loop-at.invariant other (λ x l. refl) (omega arith) (rw c.in-Other.is at c.class_of-c.ensures)
+returns-in-Underscore c =
+    elim c.in-Underscore.is [
+      | inl e ↦ reads_bad _ _ _ c.loop-at.invariant underscore (λ x l. refl) (omega arith) (rw e at c.class_of-c.ensures)
+      | inr e ↦ reads_bad _ _ _ c.loop-at.invariant other (λ x l. refl) (omega arith) (rw e at c.class_of-c.ensures)
+    ]

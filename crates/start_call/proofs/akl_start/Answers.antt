@@ -1,0 +1,9 @@
+-- The working slice is made zero at the end. Assumes nothing.
+use Rattle.std.proofs.Common.{rules}
+use Rattle.start_call.proofs.akl_start.Goals as goal
+
+pub returns-in-Ok : goal.returns-in-Ok
+returns-in-Ok c = record { start = c.in-Ok.ensures; working = search rules }
+
+pub returns-in-Err : goal.returns-in-Err
+returns-in-Err c = record { start = rw c.number.ensures c.in-Err.ensures; working = search rules }
